@@ -1,0 +1,9 @@
+pub mod Seen
+pub mod Moves
+pub mod Shown
+pub mod ReplyTo
+pub mod Method
+pub mod FolderReply
+pub mod FolderMoves
+pub mod Below
+pub mod FolderLaws

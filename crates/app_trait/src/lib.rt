@@ -1,0 +1,17 @@
+// What answers a request: an application, which is one function from a request and a folder to a reply, and the
+// application that serves the files of a folder. An application opens no file: it asks for at most two looks, and
+// its caller looks and tells it what was found.
+//
+// The promise: whatever the folder has, `FolderApp` ends with the reply that the folder's table gives.
+#![tactic(auto)]
+
+mod app;
+mod folder_app;
+mod method;
+mod request;
+#[cfg(test)]
+mod tests;
+
+pub use app::{App, Move};
+pub use folder_app::FolderApp;
+pub use request::{Request, Seen};

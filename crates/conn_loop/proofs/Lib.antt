@@ -1,0 +1,11 @@
+pub mod AnswerLemmas
+pub mod GrowthLemmas
+pub mod LookLemmas
+pub mod ReplyLemmas
+pub mod StandingLemmas
+pub mod StepLemmas
+pub mod ToldLemmas
+pub mod VerdictLemmas
+pub mod ViewLemmas
+pub mod WindowLemmas
+pub mod WritingLemmas

@@ -1,0 +1,394 @@
+-- What each step of a connection makes of what it stands for.
+use Rattle.std.proofs.Common.{◌≡◌, ◌≢◌, ℕ, zero, suc, ◌+◌, ◌-◌, ◌*◌, ◌<◌, ◌≤◌, Bool, true, false, ◌||◌, List, [], ◌∷◌, ◌++◌, length, drop, Option, Some, None, IfSome, option_map, inl, inr, refl, sym, ap, ◌∙◌, subst, arith, append-nil, append_assoc, length-append}
+use Rattle.std.specs.Prelude.{if◌then◌else◌, IfNone, IsTrue, ◌↔◌}
+use Rattle.std.proofs.lemmas.Bool.{both_ways}
+use Rattle.outside.specs.Causes.{is_end}
+use Rattle.outside.specs.declared.link.ReadOut.{ReadOut}
+use Rattle.outside.specs.declared.link.ReadOut.TheVariants as Reads
+use Rattle.outside.specs.Counts.{Counts}
+use Rattle.outside.specs.Moments.{Gains}
+use Rattle.warp_request.specs.Verdict.{more, refused, asked, Asked}
+use Rattle.warp_request.specs.Next.{next_of}
+use Rattle.warp_request.specs.Lines.{skip_empty}
+use Rattle.conn_loop.specs.declared.step.Step.{Step}
+use Rattle.conn_loop.specs.declared.step.Step.TheVariants.{WantRead, WantWrite, Done}
+use Rattle.conn_loop.specs.declared.step.End.{End}
+use Rattle.conn_loop.specs.declared.step.End.TheVariants.{Clean, Cut, ReadFault, WriteFault, FileFault, NoMemory}
+use Rattle.conn_loop.specs.declared.writing.WriteEnd.{WriteEnd}
+use Rattle.conn_loop.specs.declared.writing.WriteEnd.TheVariants.{All, Waits, Fails}
+use Rattle.warp_response.specs.Text.{answer_text}
+use Rattle.conn_loop.specs.Answers.{closes, last_word}
+use Rattle.conn_loop.specs.Causes.{Clocked, HasFault, end_of}
+use Rattle.conn_loop.specs.Moves.{Takes, Sends, Refuses, Responds, got_len}
+use Rattle.conn_loop.specs.Outgoing.{Outgoing, pending_of, is_held}
+use Rattle.conn_loop.specs.Replying.{Replying}
+use Rattle.conn_loop.specs.Standing.{Standing, at_first, Accounts, Stands, StandsFor, IsAt, IsWhole, IsPrefix, IsPrefixFor, Says, SaysFor, GoesOn, HasEnded}
+use Rattle.conn_loop.specs.Steps.{Comes, ComesFor, MayEnd}
+use Rattle.conn_loop.specs.Writing.{Writes, Leaves}
+use Rattle.conn_loop.proofs.AnswerLemmas.{finals_done, finals_more}
+use Rattle.conn_loop.proofs.StandingLemmas.{accounts_first, accounts_take, accounts_send, accounts_same, accounts_refuse, accounts_respond, prefix_of, part_of, whole_of, fewer_of, closed_of, open_of, rest_is}
+use Rattle.conn_loop.proofs.ToldLemmas.{told_kept, told_sent, told_taken}
+
+-- ---- writing
+
+no_length : (xs : List ℕ) → length xs ≡ 0 → xs ≡ []
+no_length [] is = refl
+no_length (x ∷ xs) is = absurd (omega (arith, is))
+
+-- where nothing is to be written, nothing stands beside what is gathered
+held_none : (o : Outgoing) → pending_of o ≡ [] → is_held o ≡ false
+held_none o none =
+    let sum : length (o.gathered ++ (o.head ++ o.content)) ≡ 0 = ap (λ (t : List ℕ). length t) none in
+    let head : o.head ≡ [] = no_length o.head (omega (arith, sum, length-append o.gathered (o.head ++ o.content), length-append o.head o.content)) in
+    let content : o.content ≡ [] = no_length o.content (omega (arith, sum, length-append o.gathered (o.head ++ o.content), length-append o.head o.content)) in
+    rw (head, content) refl
+
+-- what was written of the output was written of the connection
+pub sends_of : (end : WriteEnd) (s old : Standing) (a b : Outgoing) (o p : Option (List ℕ)) → s ≡ old → s.pending ≡ pending_of a
+    → Writes end (pending_of a) (pending_of b) o p → Sends end old (record s { pending = pending_of b; full = is_held b }) o p
+sends_of end s old a b o p was is x = record {
+  front = x.front;
+  split = ap (λ (v : Standing). v.pending) (sym was) ∙ is ∙ x.split;
+  told = x.told;
+  leaves = x.left;
+  room = λ e. held_none b (subst (λ (v : WriteEnd). Leaves v (pending_of b)) e x.left);
+  same = ap (λ (v : Standing). record v { pending = pending_of b; full = is_held b }) was;
+}
+
+-- what is answered where writing stopped
+abbrev pub due_of : WriteEnd → Option Step
+due_of All = None
+due_of Waits = Some WantWrite
+due_of Fails = Some (Done WriteFault)
+
+at_due : (end : WriteEnd) (reply : Replying) (c : Standing) (t s : List ℕ) (ended : Option Bool) → Leaves end c.pending → Accounts reply c t s → GoesOn ended
+    → IsAt (due_of end) reply c.moments t s ended
+at_due All reply c t s ended leaves x goes = goes
+at_due Waits reply c t s ended leaves x goes = (part_of reply c t s leaves x, goes)
+at_due Fails reply c t s ended leaves x goes = (part_of reply c t s leaves x, goes)
+
+comes_due : (end : WriteEnd) (reply : Replying) (old new : Standing) (t s : List ℕ) (o p : Option (List ℕ)) (ended : Option Bool) (sends : Sends end old new o p)
+    → Comes None reply old t s ended → Comes (due_of end) reply new t (s ++ sends.front) ended
+comes_due end reply old new t s o p ended sends x =
+    let accounts : Accounts reply new t (s ++ sends.front) =
+    subst (λ (c : Standing). Accounts reply c t (s ++ sends.front)) (sym sends.same)
+    (accounts_send reply old t s sends.front new.pending new.full sends.split x.accounts) in
+    record { accounts = accounts; at = at_due end reply new t (s ++ sends.front) ended sends.leaves accounts x.at }
+
+-- writing, as far as the link takes it
+pub due_for : (end : WriteEnd) (reply : Option Replying) (old new : Standing) (taken later sent wrote : Option (List ℕ)) (ended now : Option Bool)
+    → Sends end old new sent wrote → later ≡ taken → now ≡ ended → ComesFor None reply old taken sent ended → ComesFor (due_of end) reply new later wrote now
+due_for end reply old new taken later sent wrote ended now sends takes ends x =
+    subst (λ (e : Option Bool). ComesFor (due_of end) reply new later wrote e) (sym ends)
+    (subst (λ (t : Option (List ℕ)). ComesFor (due_of end) reply new t wrote ended) (sym takes)
+    (told_sent (λ r t s. Comes None r old t s ended) (λ r t s. Comes (due_of end) r new t s ended) reply taken sent wrote sends.front sends.told
+    (λ r t s. comes_due end r old new t s sent wrote ended sends) x))
+
+-- ---- ending
+
+at_end : (end : End) (reply : Replying) (old new : Standing) (t s : List ℕ) (ended : Option Bool) → MayEnd end old → new.pending ≡ [] → new.left ≡ old.left
+    → new.input ≡ old.input → Accounts reply new t s → GoesOn ended → Says (Done end) reply new.moments t s ended
+at_end Clean reply old new t s ended may empty left input x goes =
+    (whole_of reply new t s empty (finals_done new.left new.input (left ∙ may)) x, inl (closed_of reply new t s (left ∙ may) x))
+at_end Cut reply old new t s ended may empty left input x goes = absurd may
+at_end ReadFault reply old new t s ended may empty left input x goes = absurd may
+at_end WriteFault reply old new t s ended may empty left input x goes = absurd may
+at_end FileFault reply old new t s ended may empty left input x goes = (fewer_of reply new t s (rw (left, input) may) x, goes)
+at_end NoMemory reply old new t s ended may empty left input x goes = (fewer_of reply new t s (rw (left, input) may) x, goes)
+
+-- all is written, and the connection ends
+pub end_for : (end : End) (reply : Option Replying) (old new : Standing) (taken sent : Option (List ℕ)) (ended : Option Bool) → MayEnd end old → new.pending ≡ []
+    → new ≡ record old { pending = new.pending; full = new.full } → ComesFor None reply new taken sent ended → ComesFor (Some (Done end)) reply new taken sent ended
+end_for end reply old new taken sent ended may empty same x =
+    told_kept (λ r t s. Comes None r new t s ended) (λ r t s. Comes (Some (Done end)) r new t s ended) reply taken sent
+    (λ r t s y. record {
+      accounts = y.accounts;
+      at = at_end end r old new t s ended may empty (ap (λ (c : Standing). c.left) same) (ap (λ (c : Standing). c.input) same) y.accounts y.at;
+    }) x
+
+-- ---- reading
+
+goes_kept : (old new : Option Bool) → new ≡ option_map (λ e. e || false) old → GoesOn old → GoesOn new
+goes_kept None None is x = tt
+goes_kept None (Some new) is x = cc
+goes_kept (Some old) None is x = cc
+goes_kept (Some true) (Some new) is x = cc
+goes_kept (Some false) (Some new) is x = cc
+
+ended_now : (old new : Option Bool) → new ≡ option_map (λ e. e || true) old → HasEnded new
+ended_now None None is = tt
+ended_now None (Some new) is = cc
+ended_now (Some old) None is = cc
+ended_now (Some true) (Some new) is = cc
+ended_now (Some false) (Some new) is = cc
+
+taken_accounts : (out : ReadOut) (reply : Replying) (old new : Standing) (t s : List ℕ) (o p : Option (List ℕ)) (takes : Takes out old.input new.input o p)
+    → new ≡ record old { input = new.input } → Accounts reply old t s → Accounts reply new (t ++ takes.piece) s
+taken_accounts out reply old new t s o p takes same x =
+    let is : new ≡ record old { input = old.input ++ takes.piece } = same ∙ ap (λ (v : List ℕ). record old { input = v }) takes.grown in
+    subst (λ (c : Standing). Accounts reply c (t ++ takes.piece) s) (sym is) (accounts_take reply old t s takes.piece x)
+
+-- a read that leaves the connection at this result
+fill_for : (result : Option Step) (out : ReadOut) (reply : Option Replying) (old new : Standing) (taken later sent wrote : Option (List ℕ)) (ended now : Option Bool)
+    → Takes out old.input new.input taken later → new ≡ record old { input = new.input } → wrote ≡ sent
+    → ((r : Replying) (t s : List ℕ) → Accounts r new t s → GoesOn ended → IsAt result r new.moments t s now)
+    → ComesFor None reply old taken sent ended → ComesFor result reply new later wrote now
+fill_for result out reply old new taken later sent wrote ended now takes same sends at x =
+    subst (λ (s : Option (List ℕ)). ComesFor result reply new later s now) (sym sends)
+    (told_taken (λ r t s. Comes None r old t s ended) (λ r t s. Comes result r new t s now) reply taken later sent takes.piece takes.told
+    (λ r t s y.
+    let accounts : Accounts r new (t ++ takes.piece) s = taken_accounts out r old new t s taken later takes same y.accounts in
+    record { accounts = accounts; at = at r (t ++ takes.piece) s accounts y.at }) x)
+
+-- bytes came
+pub got_for : (n : ℕ) (reply : Option Replying) (old new : Standing) (taken later sent wrote : Option (List ℕ)) (ended now : Option Bool)
+    → Takes (Reads.Got n) old.input new.input taken later → new ≡ record old { input = new.input } → wrote ≡ sent → now ≡ option_map (λ e. e || false) ended
+    → ComesFor None reply old taken sent ended → ComesFor None reply new later wrote now
+got_for n reply old new taken later sent wrote ended now takes same sends ends x =
+    fill_for None (Reads.Got n) reply old new taken later sent wrote ended now takes same sends (λ r t s y goes. goes_kept ended now ends goes) x
+
+-- where no bytes came, nothing is changed
+pub unread : (out : ReadOut) (old new : Standing) (o p : Option (List ℕ)) → Takes out old.input new.input o p → new ≡ record old { input = new.input } → got_len out ≡ 0 → new ≡ old
+unread out old new o p takes same none =
+    let empty : takes.piece ≡ [] = no_length takes.piece (takes.long ∙ none) in
+    same ∙ ap (λ (v : List ℕ). record old { input = v }) (takes.grown ∙ ap (λ (p : List ℕ). old.input ++ p) empty ∙ append-nil old.input)
+
+-- all is written, and the input is too little to say
+pub record IsIdle (c : Standing) : Type 0 where
+  pub empty : c.pending ≡ []
+  pub some : 0 < c.left
+  pub less : next_of c.input ≡ more
+
+-- once all is written
+pub idle_of : (old new : Standing) → new ≡ record old { pending = new.pending; full = new.full } → new.pending ≡ [] → 0 < old.left → next_of old.input ≡ more → IsIdle new
+idle_of old new same empty some less = record {
+  empty = empty;
+  some = subst (λ (n : ℕ). 0 < n) (sym (ap (λ (c : Standing). c.left) same)) some;
+  less = ap (λ (c : Standing). next_of c.input) same ∙ less;
+}
+
+idle_whole : (reply : Replying) (c : Standing) (t s : List ℕ) → IsIdle c → Accounts reply c t s → IsWhole reply c.moments t s
+idle_whole reply c t s idle x = whole_of reply c t s idle.empty (finals_more c.left c.input idle.less) x
+
+-- how a read without bytes leaves an idle connection
+abbrev pub IsStop : Step → ReadOut → Standing → Type 0
+IsStop WantRead out c = out ≡ Reads.NotYet
+IsStop (Done ReadFault) out c = out ≡ Reads.Failed
+IsStop (Done Clean) out c = (out ≡ Reads.End) × (skip_empty c.input ≡ [])
+IsStop (Done Cut) out c = (out ≡ Reads.End) × (skip_empty c.input ≢ [])
+IsStop (Done WriteFault) out c = ⊥
+IsStop (Done FileFault) out c = ⊥
+IsStop (Done NoMemory) out c = ⊥
+IsStop WantWrite out c = ⊥
+
+stop_len : (step : Step) (out : ReadOut) (c : Standing) → IsStop step out c → got_len out ≡ 0
+stop_len WantRead out c is = rw is refl
+stop_len (Done ReadFault) out c is = rw is refl
+stop_len (Done Clean) out c is = rw is.0 refl
+stop_len (Done Cut) out c is = rw is.0 refl
+stop_len (Done WriteFault) out c is = absurd is
+stop_len (Done FileFault) out c is = absurd is
+stop_len (Done NoMemory) out c is = absurd is
+stop_len WantWrite out c is = absurd is
+
+at_stop : (step : Step) (out : ReadOut) (reply : Replying) (c : Standing) (t s : List ℕ) (ended now : Option Bool) → IsStop step out c → IsIdle c
+    → now ≡ option_map (λ e. e || is_end out) ended → Accounts reply c t s → GoesOn ended → Says step reply c.moments t s now
+at_stop WantRead out reply c t s ended now is idle ends x goes =
+    (idle_whole reply c t s idle x, open_of reply c t s idle.some idle.less x, goes_kept ended now (rw is at ends) goes)
+at_stop (Done ReadFault) out reply c t s ended now is idle ends x goes =
+    (idle_whole reply c t s idle x, open_of reply c t s idle.some idle.less x, goes_kept ended now (rw is at ends) goes)
+at_stop (Done Clean) out reply c t s ended now is idle ends x goes = (
+  idle_whole reply c t s idle x,
+  inr (open_of reply c t s idle.some idle.less x, ended_now ended now (rw is.0 at ends), ap (λ (v : List ℕ). skip_empty v) (rest_is reply c t s idle.less x) ∙ is.1),
+)
+at_stop (Done Cut) out reply c t s ended now is idle ends x goes = (
+  idle_whole reply c t s idle x,
+  open_of reply c t s idle.some idle.less x,
+  ended_now ended now (rw is.0 at ends),
+  λ blank. is.1 (ap (λ (v : List ℕ). skip_empty v) (sym (rest_is reply c t s idle.less x)) ∙ blank),
+)
+at_stop (Done WriteFault) out reply c t s ended now is idle ends x goes = absurd is
+at_stop (Done FileFault) out reply c t s ended now is idle ends x goes = absurd is
+at_stop (Done NoMemory) out reply c t s ended now is idle ends x goes = absurd is
+at_stop WantWrite out reply c t s ended now is idle ends x goes = absurd is
+
+-- no bytes came
+pub stop_for : (step : Step) (out : ReadOut) (reply : Option Replying) (old new : Standing) (taken later sent wrote : Option (List ℕ)) (ended now : Option Bool)
+    → IsStop step out new → IsIdle old → Takes out old.input new.input taken later → new ≡ record old { input = new.input } → wrote ≡ sent
+    → now ≡ option_map (λ e. e || is_end out) ended → ComesFor None reply old taken sent ended → ComesFor (Some step) reply new later wrote now
+stop_for step out reply old new taken later sent wrote ended now is idle takes same sends ends x =
+    let stays : new ≡ old = unread out old new taken later takes same (stop_len step out new is) in
+    let idle_now : IsIdle new = subst IsIdle (sym stays) idle in
+    fill_for (Some step) out reply old new taken later sent wrote ended now takes same sends
+    (λ r t s y goes. at_stop step out r new t s ended now is idle_now ends y goes) x
+
+-- ---- answering
+
+pub refuse_for : (reply : Option Replying) (old new : Standing) (taken sent : Option (List ℕ)) (ended : Option Bool) (m code : ℕ) → 0 < old.left
+    → next_of old.input ≡ refused code → Refuses code m old new → ComesFor None reply old taken sent ended → ComesFor None reply new taken sent ended
+refuse_for reply old new taken sent ended m code some is refuses x =
+    let k = old.left - 1 in
+    let left : old.left ≡ suc k = omega (arith, some) in
+    told_kept (λ r t s. Comes None r old t s ended) (λ r t s. Comes None r new t s ended) reply taken sent
+    (λ r t s y. record {
+      accounts = subst (λ (c : Standing). Accounts r c t s) (sym refuses) (accounts_refuse r old t s k m code new.full left is y.accounts);
+      at = y.at;
+    }) x
+
+responded : (reply : Replying) (old new : Standing) (t s : List ℕ) (ended : Option Bool) (m : ℕ) (a : Asked) (responds : Responds (Some reply) a m old new)
+    → next_of old.input ≡ asked a → a.len ≤ length old.input → Comes None reply old t s ended → Comes None reply new t s ended
+responded reply old new t s ended m a responds is fits x =
+    let left : old.left ≡ suc responds.left = omega (arith, responds.counted) in
+    let made : new ≡ record {
+      input = drop a.len old.input;
+      pending = old.pending ++ answer_text (reply a) m (last_word a responds.left);
+      full = new.full;
+      moments = old.moments ++ m ∷ [];
+      left = if closes a responds.left then 0 else responds.left;
+      over = old.over;
+    } = responds.same ∙ ap (λ (v : List ℕ). record {
+      input = drop a.len old.input;
+      pending = old.pending ++ v;
+      full = new.full;
+      moments = old.moments ++ m ∷ [];
+      left = if closes a responds.left then 0 else responds.left;
+      over = old.over;
+    }) responds.replied in
+    record {
+      accounts = subst (λ (c : Standing). Accounts reply c t s) (sym made) (accounts_respond reply old t s responds.left m a new.full left is fits x.accounts);
+      at = x.at;
+    }
+
+pub respond_for : (reply : Option Replying) (old new : Standing) (taken sent : Option (List ℕ)) (ended : Option Bool) (m : ℕ) (a : Asked) → Responds reply a m old new
+    → next_of old.input ≡ asked a → a.len ≤ length old.input → ComesFor None reply old taken sent ended → ComesFor None reply new taken sent ended
+respond_for None old new taken sent ended m a responds is fits x = tt
+respond_for (Some reply) old new None sent ended m a responds is fits x = tt
+respond_for (Some reply) old new (Some t) None ended m a responds is fits x = tt
+respond_for (Some reply) old new (Some t) (Some s) ended m a responds is fits x = responded reply old new t s ended m a responds is fits x
+
+-- ---- moments
+
+gains_more : (o p q : Option (List ℕ)) (a b : List ℕ) → Gains o p a → Gains p q b → Gains o q (a ++ b)
+gains_more o p None a b x y = tt
+gains_more o None (Some q) a b x y = absurd y
+gains_more None (Some p) (Some q) a b x y = absurd x
+gains_more (Some o) (Some p) (Some q) a b x y = y ∙ ap (λ (t : List ℕ). t ++ b) x ∙ append_assoc o a b
+
+gains_none : (o : Option (List ℕ)) → Gains o o []
+gains_none None = tt
+gains_none (Some o) = sym (append-nil o)
+
+-- the clock wasn't asked
+pub clocked_none : (old new : Standing) (o : Option (List ℕ)) → new.moments ≡ old.moments → Clocked old new o o
+clocked_none old new o same = record { gained = []; grown = same ∙ sym (append-nil old.moments); gave = gains_none o }
+
+-- the clock was asked once more
+pub clocked_more : (first was new : Standing) (o p q : Option (List ℕ)) (m : ℕ) → Clocked first was o p → new.moments ≡ was.moments ++ m ∷ []
+    → Gains p q (m ∷ []) → Clocked first new o q
+clocked_more first was new o p q m x grown gains = record {
+  gained = x.gained ++ m ∷ [];
+  grown = grown ∙ ap (λ (t : List ℕ). t ++ m ∷ []) x.grown ∙ append_assoc first.moments x.gained (m ∷ []);
+  gave = gains_more o p q x.gained (m ∷ []) x.gave gains;
+}
+
+-- the moments stay
+pub clocked_kept : (first was new : Standing) (o p q : Option (List ℕ)) → Clocked first was o p → new.moments ≡ was.moments → q ≡ p → Clocked first new o q
+clocked_kept first was new o p q x same given =
+    subst (λ (v : Option (List ℕ)). Clocked first new o v) (sym given) (record { gained = x.gained; grown = same ∙ x.grown; gave = x.gave })
+
+-- ---- a whole call
+
+open_at : (reply : Replying) (c : Standing) (t s : List ℕ) (ended : Option Bool) → c.over ≡ None → Stands reply c t s ended → Comes None reply c t s ended
+open_at reply c t s ended runs x = record { accounts = x.accounts; at = subst (λ (o : Option End). IsAt (option_map Done o) reply c.moments t s ended) runs x.at }
+
+pub open_for : (reply : Option Replying) (c : Standing) (taken sent : Option (List ℕ)) (ended : Option Bool) → c.over ≡ None
+    → StandsFor reply c taken sent ended → ComesFor None reply c taken sent ended
+open_for reply c taken sent ended runs x =
+    told_kept (λ r t s. Stands r c t s ended) (λ r t s. Comes None r c t s ended) reply taken sent (λ r t s y. open_at r c t s ended runs y) x
+
+at_kept : (step : Step) (reply : Replying) (moments t s : List ℕ) (ended : Option Bool) → Says step reply moments t s ended → IsAt (option_map Done (end_of step)) reply moments t s ended
+at_kept WantRead reply moments t s ended x = x.2
+at_kept WantWrite reply moments t s ended x = x.1
+at_kept (Done end) reply moments t s ended x = x
+
+-- what was answered is kept
+pub kept_for : (step : Step) (reply : Option Replying) (mid new : Standing) (taken sent : Option (List ℕ)) (ended : Option Bool) → new ≡ record mid { over = end_of step }
+    → ComesFor (Some step) reply mid taken sent ended → StandsFor reply new taken sent ended
+kept_for step reply mid new taken sent ended same x =
+    subst (λ (c : Standing). StandsFor reply c taken sent ended) (sym same)
+    (told_kept (λ r t s. Comes (Some step) r mid t s ended) (λ r t s. Stands r (record mid { over = end_of step }) t s ended) reply taken sent
+    (λ r t s y. record {
+      accounts = accounts_same r mid (record mid { over = end_of step }) t s refl refl refl refl y.accounts;
+      at = at_kept step r mid.moments t s ended y.at;
+    }) x)
+
+pub says_for : (step : Step) (reply : Option Replying) (mid new : Standing) (taken sent : Option (List ℕ)) (ended : Option Bool) → new.moments ≡ mid.moments
+    → ComesFor (Some step) reply mid taken sent ended → SaysFor step reply new taken sent ended
+says_for step reply mid new taken sent ended same x =
+    told_kept (λ r t s. Comes (Some step) r mid t s ended) (λ r t s. Says step r new.moments t s ended) reply taken sent
+    (λ r t s y. subst (λ (v : List ℕ). Says step r v t s ended) (sym same) y.at) x
+
+pub prefix_for : (reply : Option Replying) (c : Standing) (taken sent : Option (List ℕ)) (ended : Option Bool) → StandsFor reply c taken sent ended → IsPrefixFor reply c taken sent
+prefix_for reply c taken sent ended x =
+    told_kept (λ r t s. Stands r c t s ended) (λ r t s. IsPrefix r c.moments t s) reply taken sent (λ r t s y. prefix_of r c t s y.accounts) x
+
+-- what ended stays so
+pub over_for : (end : End) (reply : Option Replying) (c : Standing) (taken sent : Option (List ℕ)) (ended : Option Bool) → c.over ≡ Some end
+    → StandsFor reply c taken sent ended → SaysFor (Done end) reply c taken sent ended
+over_for end reply c taken sent ended over x =
+    told_kept (λ r t s. Stands r c t s ended) (λ r t s. Says (Done end) r c.moments t s ended) reply taken sent
+    (λ r t s y. subst (λ (o : Option End). IsAt (option_map Done o) r c.moments t s ended) over y.at) x
+
+pub stands_first : (reply : Replying) (c : Standing) (ended : Option Bool) → c ≡ at_first → GoesOn ended → Stands reply c [] [] ended
+stands_first reply c ended is goes =
+    subst (λ (v : Standing). Stands reply v [] [] ended) (sym is) (record { accounts = accounts_first reply; at = goes })
+
+-- ---- a fact for an end, or for none
+
+pub if_some : (o : Option End) (end : End) (P : End → Type 0) → o ≡ Some end → P end → IfSome o P
+if_some None end P is x = cc
+if_some (Some e) end P is x =
+    let same : e ≡ end = cc in
+    subst P (sym same) x
+
+pub if_open : (o : Option End) (P : End → Type 0) → o ≡ None → IfSome o P
+if_open None P is = tt
+if_open (Some e) P is = cc
+
+pub none_open : (o : Option End) (P : Type 0) → P → IfNone o P
+none_open None P x = x
+none_open (Some e) P x = tt
+
+pub none_over : (o : Option End) (end : End) (P : Type 0) → o ≡ Some end → IfNone o P
+none_over None end P is = cc
+none_over (Some e) end P is = tt
+
+-- ---- the loop over requests
+
+-- bytes came: less room is left
+pub smaller : (old mid new : Standing) → mid.left ≡ old.left → mid.input ≡ old.input → new.left ≡ mid.left → length mid.input < length new.input → length mid.input < 8192
+    → new.left * 20000 + (16384 - length new.input) < old.left * 20000 + (16384 - length old.input)
+smaller old mid new left input stays longer short = omega (arith, left, ap (λ (t : List ℕ). length t) input, stays, longer, short)
+
+-- a cause that was counted from here on was counted from before
+pub fault_from : (step : Step) (f g h : Counts) (files since later : ℕ) → f.reads ≤ g.reads → f.writes ≤ g.writes → files ≤ since
+    → HasFault step g h since later → HasFault step f h files later
+fault_from (Done ReadFault) f g h files since later reads writes counted x = omega (arith, reads, x)
+fault_from (Done WriteFault) f g h files since later reads writes counted x = omega (arith, writes, x)
+fault_from (Done FileFault) f g h files since later reads writes counted x = omega (arith, counted, x)
+fault_from (Done Clean) f g h files since later reads writes counted x = tt
+fault_from (Done Cut) f g h files since later reads writes counted x = tt
+fault_from (Done NoMemory) f g h files since later reads writes counted x = tt
+fault_from WantRead f g h files since later reads writes counted x = tt
+fault_from WantWrite f g h files since later reads writes counted x = tt
+
+-- the connection isn't closed: a final answer may follow
+pub some_left : (left : ℕ) (closed : Bool) (was : ℕ) → left ≡ was → (IsTrue closed ↔ (was ≡ 0)) → closed ≡ false → 0 < left
+some_left zero closed was same iff is = absurd (both_ways closed is (iff.1 (sym same)))
+some_left (suc left) closed was same iff is = omega arith
+
+-- a new connection stands for a link with nothing taken and nothing sent
+pub fresh_for : (reply : Option Replying) (c : Standing) (taken sent : Option (List ℕ)) (ended : Option Bool) → taken ≡ Some [] → sent ≡ Some [] → ended ≡ Some false
+    → ((r : Replying) (e : Option Bool) → GoesOn e → Stands r c [] [] e) → StandsFor reply c taken sent ended
+fresh_for None c taken sent ended a b d x = tt
+fresh_for (Some r) c taken sent ended a b d x = rw (a, b, d) (x r (Some false) refl)

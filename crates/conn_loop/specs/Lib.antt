@@ -1,0 +1,11 @@
+pub mod Answers
+pub mod Causes
+pub mod Heads
+pub mod Moves
+pub mod Outgoing
+pub mod Phases
+pub mod Replies
+pub mod Replying
+pub mod Standing
+pub mod Steps
+pub mod Writing

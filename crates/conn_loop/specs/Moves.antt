@@ -1,0 +1,79 @@
+-- What the steps of a connection do to what it holds and to what is told of its link.
+use Rattle.std.specs.Prelude.{◌≡◌, ℕ, ◌+◌, ◌<◌, ◌≤◌, List, [], ◌∷◌, ◌++◌, length, drop, false, Option, option_map, IfSome, if◌then◌else◌}
+use Rattle.outside.specs.Counts.{Rises}
+use Rattle.outside.specs.Moments.{Gains}
+use Rattle.outside.specs.declared.link.ReadOut.{ReadOut}
+use Rattle.outside.specs.declared.link.ReadOut.TheVariants.{Got, End, NotYet, Failed}
+use Rattle.warp_request.specs.Verdict.{Asked}
+use Rattle.warp_response.specs.Text.{answer_text, refusal_text}
+use Rattle.conn_loop.specs.declared.writing.WriteEnd.{WriteEnd}
+use Rattle.conn_loop.specs.declared.writing.WriteEnd.TheVariants.{All}
+use Rattle.conn_loop.specs.declared.answered.Answered.{Answered}
+use Rattle.conn_loop.specs.declared.answered.Answered.TheVariants as answers
+use Rattle.conn_loop.specs.Answers.{closes, last_word}
+use Rattle.conn_loop.specs.Replying.{Replying}
+use Rattle.conn_loop.specs.Standing.{Standing}
+use Rattle.conn_loop.specs.Writing.{Leaves}
+
+-- how many bytes a read gave
+abbrev pub got_len : ReadOut → ℕ
+got_len (Got n) = n
+got_len End = 0
+got_len NotYet = 0
+got_len Failed = 0
+
+-- a read that gave bytes gave some
+abbrev pub HasSome : ReadOut → List ℕ → Type 0
+HasSome (Got n) piece = 0 < length piece
+HasSome End piece = Unit {0}
+HasSome NotYet piece = Unit {0}
+HasSome Failed piece = Unit {0}
+
+-- a read puts a piece behind what was there
+pub record Takes (out : ReadOut) (old new : List ℕ) (taken later : Option (List ℕ)) : Type 0 where
+  pub piece : List ℕ
+  pub grown : new ≡ old ++ piece
+  pub told : later ≡ option_map (λ bytes. bytes ++ piece) taken
+  pub long : length piece ≡ got_len out
+  pub some : HasSome out piece
+
+-- the front of what is to be written was written
+pub record Sends (end : WriteEnd) (old new : Standing) (sent later : Option (List ℕ)) : Type 0 where
+  pub front : List ℕ
+  pub split : old.pending ≡ front ++ new.pending
+  pub told : later ≡ option_map (λ bytes. bytes ++ front) sent
+  pub leaves : Leaves end new.pending
+  pub room : end ≡ All → new.full ≡ false
+  pub same : new ≡ record old { pending = new.pending; full = new.full }
+
+-- the input is refused at a moment, and nothing follows
+abbrev pub Refuses : (code moment : ℕ) (old new : Standing) → Type 0
+Refuses code moment old new =
+    new ≡ record old { pending = old.pending ++ refusal_text code moment; full = new.full; moments = old.moments ++ moment ∷ []; left = 0 }
+
+-- a request is answered at a moment
+pub record Responds (reply : Option Replying) (a : Asked) (moment : ℕ) (old new : Standing) : Type 0 where
+  pub left : ℕ
+  pub counted : old.left ≡ 1 + left
+  pub text : List ℕ
+  pub replied : IfSome reply (λ r. text ≡ answer_text (r a) moment (last_word a left))
+  pub same : new ≡ record {
+    input = drop a.len old.input;
+    pending = old.pending ++ text;
+    full = new.full;
+    moments = old.moments ++ moment ∷ [];
+    left = if closes a left then 0 else left;
+    over = old.over;
+  }
+
+-- a request was answered, at the moment that the clock gave; else nothing is changed, and the clock wasn't asked
+abbrev pub AnswersTo : Answered → Option Replying → Asked → Standing → Standing → (given later : Option (List ℕ)) → Type 0
+AnswersTo answers.Made reply a old new given later = (moment : ℕ) × Responds reply a moment old new × Gains given later (moment ∷ [])
+AnswersTo answers.Failed reply a old new given later = (new ≡ old) × (later ≡ given)
+AnswersTo answers.NoMemory reply a old new given later = (new ≡ old) × (later ≡ given)
+
+-- the files failed only where their count of faults rose, and it never falls
+abbrev pub AnswerFaults : Answered → ℕ → ℕ → Type 0
+AnswerFaults answers.Made old new = old ≤ new
+AnswerFaults answers.Failed old new = (old ≤ new) × Rises old new
+AnswerFaults answers.NoMemory old new = old ≤ new

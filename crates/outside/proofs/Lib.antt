@@ -1,0 +1,4 @@
+pub mod MemClockLemmas
+pub mod MemFolderLemmas
+pub mod ReadScriptLemmas
+pub mod RetryLemmas

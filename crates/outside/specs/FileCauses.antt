@@ -1,0 +1,53 @@
+-- What an answer of the files says: of the folder, of the root, and of the count by which a fault is known.
+use Rattle.std.specs.Prelude.{◌≡◌, ℕ, ◌≤◌, List, take, drop, length, Option, Some, None, IsSomeAnd}
+use Rattle.outside.specs.declared.files.RootOut.{RootOut}
+use Rattle.outside.specs.declared.files.RootOut.TheVariants as Roots
+use Rattle.outside.specs.declared.files.FindOut.{FindOut}
+use Rattle.outside.specs.declared.files.FindOut.TheVariants.{Found}
+use Rattle.outside.specs.declared.files.FindOut.TheVariants as Finds
+use Rattle.outside.specs.declared.files.PartOut.{PartOut}
+use Rattle.outside.specs.declared.files.PartOut.TheVariants as Parts
+use Rattle.outside.specs.Counts.{Rises}
+use Rattle.outside.specs.Folder.{Folder, file_at}
+
+-- the text and the answer of the last `root` are kept, unless it was want of memory
+abbrev pub NotesRoot : Option (List ℕ × RootOut) → Option (List ℕ × RootOut) → List ℕ → RootOut → Type 0
+NotesRoot old new text Roots.NoMemory = new ≡ old
+NotesRoot old new text result = new ≡ Some (text, result)
+
+-- a `root` that failed raised the count of faults, which never falls
+abbrev pub RootFaults : RootOut → ℕ → ℕ → Type 0
+RootFaults Roots.Failed old new = (old ≤ new) × Rises old new
+RootFaults _ old new = old ≤ new
+
+-- what was found is what the folder has at this path: its size and its time, or nothing
+abbrev pub FindsIn : {X : Type 0} → Folder → List ℕ → FindOut X → Type 0
+FindsIn folder path (Found o) = IsSomeAnd (file_at folder path) (λ f. (o.size ≡ length f.0) × (o.mtime ≡ f.1))
+FindsIn folder path Finds.Absent = file_at folder path ≡ None
+FindsIn folder path Finds.Failed = Unit {0}
+FindsIn folder path Finds.NoMemory = Unit {0}
+
+-- a file that was found was found at this path
+abbrev pub FoundAt : {X : Type 0} → (X → List ℕ) → List ℕ → FindOut X → Type 0
+FoundAt path_of path (Found o) = path_of o.file ≡ path
+FoundAt path_of path _ = Unit {0}
+
+-- a `find` that failed raised the count of faults, which never falls
+abbrev pub FindFaults : {X : Type 0} → FindOut X → ℕ → ℕ → Type 0
+FindFaults Finds.Failed old new = (old ≤ new) × Rises old new
+FindFaults _ old new = old ≤ new
+
+-- the bytes at the front of the buffer are those that the folder has for this path from a place on
+abbrev pub ReadsFrom : Folder → List ℕ → ℕ → List ℕ → PartOut → Type 0
+ReadsFrom folder path at buf (Parts.Got n) = IsSomeAnd (file_at folder path) (λ f. take n buf ≡ take n (drop at f.0))
+ReadsFrom folder path at buf Parts.Failed = Unit {0}
+
+-- a part that is given has at least one byte, within the buffer
+abbrev pub PartWithin : PartOut → List ℕ → Type 0
+PartWithin (Parts.Got n) buf = (1 ≤ n) × (n ≤ length buf)
+PartWithin Parts.Failed buf = Unit {0}
+
+-- a `read_at` that failed raised the count of faults, which never falls
+abbrev pub PartFaults : PartOut → ℕ → ℕ → Type 0
+PartFaults Parts.Failed old new = (old ≤ new) × Rises old new
+PartFaults (Parts.Got n) old new = old ≤ new

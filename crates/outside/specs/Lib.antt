@@ -1,0 +1,14 @@
+pub mod CallScript
+pub mod Causes
+pub mod Counts
+pub mod FileCauses
+pub mod Folder
+pub mod MemClock
+pub mod MemFolder
+pub mod MemSink
+pub mod Moments
+pub mod PieceLink
+pub mod ReadScript
+pub mod Room
+pub mod Rooted
+pub mod SinkCauses

@@ -1,0 +1,31 @@
+// A count of what happened. It never falls, and stands still at the end of its type.
+ghost use Rattle.std.specs.Prelude.{◌≡◌, ◌≤◌};
+ghost use Rattle.outside.specs.Counts.{full, more_by_one};
+
+/// How often something happened.
+#[derive(Drop)]
+pub(crate) struct Count {
+    n: u64,
+    ghost fits: { n ≤ full },
+}
+
+impl Count {
+    pub(crate) fn new() -> Count
+        ensures { result.n ≡ 0 }
+    {
+        Count { n: 0 }
+    }
+
+    pub(crate) fn now(&self) -> u64
+        ensures { result ≡ self.now.n }
+    {
+        self.n
+    }
+
+    /// Counts one more.
+    pub(crate) fn rise(&mut self)
+        ensures { self.new.n ≡ more_by_one self.old.n }
+    {
+        self.n = self.n.saturating_add(1);
+    }
+}

@@ -1,0 +1,44 @@
+// What a connection stands on: a link, files, a clock and a sink. Each is a trait whose contract all that
+// stands above is proved from, with a form in memory, which tells its bytes, and an adapter over the real
+// thing, which tells its counts alone.
+//
+// The promise: a call answers that something failed or must wait only where a count of that very object rose.
+#![tactic(auto)]
+
+mod bytes;
+mod call_script;
+mod clock;
+mod count;
+mod files;
+mod link;
+mod mem_clock;
+mod mem_files;
+mod mem_sink;
+mod os_clock;
+mod os_files;
+mod piece_link;
+mod place;
+mod read_script;
+mod retry;
+mod rooted;
+mod sink;
+mod std_link;
+mod std_sink;
+
+pub use clock::Clock;
+pub use files::{Files, FindOut, Opened, PartOut, RootOut};
+pub use link::{Link, ReadOut, WriteOut};
+pub use mem_clock::MemClock;
+pub use mem_files::{MemFile, MemFiles, MemOpen};
+pub use mem_sink::MemSink;
+pub use os_clock::OsClock;
+pub use os_files::{OsFile, OsFiles};
+pub use piece_link::{PieceLink, WriteEvent};
+pub use place::Place;
+pub use read_script::ReadEvent;
+pub use sink::{Sink, SinkOut};
+pub use std_link::StdLink;
+pub use std_sink::StdSink;
+
+#[cfg(test)]
+mod tests;

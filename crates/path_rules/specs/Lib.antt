@@ -1,0 +1,4 @@
+pub mod ContentType
+pub mod Target
+pub mod Route
+pub mod Walk

@@ -1,0 +1,83 @@
+-- What is promised of every legal history in sums over its entries, whatever their order, and of
+-- what a flag's owner is told.
+use Rattle.std.specs.Prelude.{◌≡◌, ℕ, ◌+◌, ◌≤◌, ◌==◌, List, Option, Some, None}
+use Rattle.reg_keys.specs.declared.opening.Opening.{Opening}
+use Rattle.reg_keys.specs.declared.event.EventName.{EventName}
+use Rattle.reg_keys.specs.declared.registration.Key.{Key}
+use Rattle.reg_keys.specs.declared.registration.Dir.{Dir}
+use Rattle.reg_keys.specs.declared.registration.Marks.{Marks}
+use Rattle.reg_keys.specs.declared.entry.FiredKey.{FiredKey}
+use Rattle.reg_keys.specs.declared.entry.ShutKey.{ShutKey}
+use Rattle.reg_keys.specs.declared.entry.Entry.{Entry}
+use Rattle.reg_keys.specs.declared.entry.Entry.TheVariants.{Open, Report, Register, Ask, Dispatch, Close}
+use Rattle.reg_keys.specs.declared.entry.OpenOutcome.TheVariants.{Opened}
+use Rattle.reg_keys.specs.declared.entry.ReportOutcome.TheVariants.{Noted}
+use Rattle.reg_keys.specs.declared.entry.RegisterOutcome.TheVariants.{Waits}
+use Rattle.reg_keys.specs.declared.entry.AskOutcome.TheVariants as Asked
+use Rattle.reg_keys.specs.declared.entry.DispatchOutcome.TheVariants.{Ran}
+use Rattle.reg_keys.specs.declared.entry.CloseOutcome.TheVariants.{Shut}
+use Rattle.reg_keys.specs.Tests.{same, one_if, total, IsIn}
+use Rattle.reg_keys.specs.Histories.{Registered}
+use Rattle.reg_keys.specs.Promises.{weight, times_run}
+
+-- ---- numbers
+
+-- an event that is named draws its number
+abbrev pub drawn_by_event : ℕ → Option EventName → ℕ
+drawn_by_event n None = 0
+drawn_by_event n (Some e) = one_if (e.number == n)
+
+-- how often an entry shows that it drew a number, for an opening, a key or an event
+abbrev pub draws : ℕ → Entry → ℕ
+draws n (Open fd (Opened o)) = one_if (o.number == n)
+draws n (Report o ds (Noted e)) = drawn_by_event n e
+draws n (Register o d m kind (Waits key e)) = one_if (key.number == n) + drawn_by_event n e
+draws n (Dispatch x (Ran ran e)) = drawn_by_event n e
+draws n _ = 0
+
+-- the entry made this opening
+abbrev pub opens : Opening → Entry → ℕ
+opens o (Open fd (Opened p)) = one_if (same p o)
+opens o _ = 0
+
+-- nothing of a stripe's has the number of another, so an opening is made once
+pub record DrawsEachOnce (past : List Entry) : Type 0 where
+  pub numbers : (n : ℕ) → weight (draws n) past ≤ 1
+  pub openings : (o : Opening) → weight (opens o) past ≤ 1
+  pub runs : (k : Key) → weight (times_run k) past ≤ 1
+
+-- ---- what ran
+
+-- a registration that an event ran, as the Ran list shows it
+abbrev pub run_of : EventName → FiredKey → Registered
+run_of x r = record { key = r.key; opening = x.opening; dir = r.dir; kind = r.kind }
+
+-- what the registrations weigh that an entry ran
+abbrev pub weight_run : (Registered → ℕ) → Entry → ℕ
+weight_run f (Dispatch x (Ran ran e)) = total (λ (r : FiredKey). f (run_of x r)) ran
+weight_run f _ = 0
+
+-- what the registration weighs that an entry accepted
+abbrev pub weight_registered : (Registered → ℕ) → Entry → ℕ
+weight_registered f (Register o d m kind (Waits key e)) = f (record { key = key; opening = o; dir = d; kind = kind })
+weight_registered f _ = 0
+
+-- however registrations are weighed, those that ran weigh no more than those that were accepted: what
+-- ran shows the key, opening, direction and tag of its own registration
+abbrev pub RunsWhatWasRegistered : List Entry → Type 0
+RunsWhatWasRegistered past = (f : Registered → ℕ) → weight (weight_run f) past ≤ weight (weight_registered f) past
+
+-- ---- what a flag's owner is told
+
+-- a Ran list holds the key with this direction and these marks
+abbrev pub ShowsRun : Key → Dir → Marks → List Entry → Type 0
+ShowsRun k d m past = (x : EventName) × (ran : List FiredKey) × (e : Option EventName) × (r : FiredKey) × IsIn (Dispatch x (Ran ran e)) past × IsIn r ran × (r.key ≡ k) × (r.dir ≡ d) × (r.marks ≡ m)
+
+-- a Shut list holds the key
+abbrev pub ShowsShut : Key → List Entry → Type 0
+ShowsShut k past = (o : Opening) × (xs : List ShutKey) × (x : ShutKey) × IsIn (Close o (Shut xs)) past × IsIn x xs × (x.key ≡ k)
+
+-- an answer that a flag ran or was closed shows a list with its key
+pub record TellsOfFlags (past : List Entry) : Type 0 where
+  pub ran : (k : Key) (d : Dir) (m : Marks) → IsIn (Ask k (Asked.Ran d m)) past → ShowsRun k d m past
+  pub closed : (k : Key) → IsIn (Ask k Asked.Closed) past → ShowsShut k past

@@ -1,0 +1,33 @@
+-- How the definitions fit together in every legal history.
+use Rattle.std.specs.Prelude.{◌≡◌, ◌<◌, ◌&&◌, List, [], ◌∷◌, true, false, Bool}
+use Rattle.std.specs.List.{list_any}
+use Rattle.reg_keys.specs.declared.registration.Key.{Key}
+use Rattle.reg_keys.specs.declared.entry.Entry.{Entry}
+use Rattle.reg_keys.specs.Tests.{same_key, IsIn}
+use Rattle.reg_keys.specs.Histories.{Registered, waiting, Standing, StillWaits, Unasked, unasked}
+use Rattle.reg_keys.specs.Replies.{is_flag}
+
+-- each key is greater than those before it
+abbrev pub IsAscending : List Registered → Type 0
+IsAscending [] = Unit {0}
+IsAscending (w ∷ ws) = ((v : Registered) → IsIn v ws → w.key.number < v.key.number) × IsAscending ws
+
+-- the key waits, and is that of a flag
+abbrev pub waits_as_flag : List Entry → Key → Bool
+waits_as_flag past k = list_any (λ (w : Registered). same_key w.key k && is_flag w.kind) (waiting past)
+
+-- the flag's owner is told that it waits
+abbrev pub still_waits : Standing → Bool
+still_waits StillWaits = true
+still_waits _ = false
+
+-- the key is that of a flag whose owner is told that it waits
+abbrev pub told_to_wait : List Entry → Key → Bool
+told_to_wait past k = list_any (λ (f : Unasked). same_key f.key k && still_waits f.standing) (unasked past)
+
+-- the definitions agree with one another
+pub record IsConsistent (past : List Entry) : Type 0 where
+  -- registrations wait in the order of their keys, and so do Ran lists and Shut lists
+  pub in_order : IsAscending (waiting past)
+  -- the flags that wait are those whose owners are told so
+  pub flags : (k : Key) → waits_as_flag past k ≡ told_to_wait past k

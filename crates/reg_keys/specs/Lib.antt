@@ -1,0 +1,10 @@
+pub mod Token
+pub mod Tests
+pub mod Histories
+pub mod Replies
+pub mod Promises
+pub mod Accounts
+pub mod Consistency
+pub mod Refusals
+pub mod Worked
+pub mod World

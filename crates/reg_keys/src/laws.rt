@@ -1,0 +1,56 @@
+// What holds of every legal history. Each law is the contract of a function that does nothing.
+ghost use Rattle.std.specs.Prelude.{ℕ, List, Bool};
+ghost use Rattle.reg_keys.specs.declared.entry.Entry.{Entry};
+ghost use Rattle.reg_keys.specs.Replies.{IsLegal};
+ghost use Rattle.reg_keys.specs.Promises.{RunsOnce, HasOneEventEach};
+ghost use Rattle.reg_keys.specs.declared.opening.Opening.{Opening};
+ghost use Rattle.reg_keys.specs.declared.registration.Dir.{Dir};
+ghost use Rattle.reg_keys.specs.Consistency.{IsConsistent};
+ghost use Rattle.reg_keys.specs.Refusals.{IsRefusal, ChangesNothing};
+ghost use Rattle.reg_keys.specs.World.{WorldStep, first_world, world_at, IsLawful, LosesNoWakeUp};
+ghost use Rattle.reg_keys.specs.Accounts.{DrawsEachOnce, RunsWhatWasRegistered, TellsOfFlags};
+
+/// A callback runs at most once and only under its own opening, whatever openings come and go.
+pub fn legal_runs_once()
+    ensures { (s : ℕ) (c : ℕ) (past : List Entry) → IsLegal s c past → RunsOnce s c past }
+{}
+
+/// A registration that waits and whose direction was reported has exactly one event out.
+pub fn legal_has_one_event_each()
+    ensures { (s : ℕ) (c : ℕ) (past : List Entry) → IsLegal s c past → HasOneEventEach s c past }
+{}
+
+/// No number is drawn twice, so an opening is made once and a key stands in one Ran list at most.
+pub fn legal_draws_each_once()
+    ensures { (s : ℕ) (c : ℕ) (past : List Entry) → IsLegal s c past → DrawsEachOnce past }
+{}
+
+/// What runs shows the key, opening, direction and tag of its own registration.
+pub fn legal_runs_what_was_registered()
+    ensures { (s : ℕ) (c : ℕ) (past : List Entry) → IsLegal s c past → RunsWhatWasRegistered past }
+{}
+
+/// A flag's owner is told that it ran, or that it was closed, only where the history shows it.
+pub fn legal_tells_of_flags()
+    ensures { (s : ℕ) (c : ℕ) (past : List Entry) → IsLegal s c past → TellsOfFlags past }
+{}
+
+/// Registrations wait in the order of their keys, and a flag's owner is told that it waits exactly
+/// while it does.
+pub fn legal_is_consistent()
+    ensures { (s : ℕ) (c : ℕ) (past : List Entry) → IsLegal s c past → IsConsistent past }
+{}
+
+/// A call that is refused changes nothing but the history.
+pub fn refusals_change_nothing()
+    ensures { (s : ℕ) (c : ℕ) (past : List Entry) (e : Entry)
+        → IsRefusal e → ChangesNothing s c past e }
+{}
+
+/// After every list of lawful steps of a stripe and its devices no wake-up is lost: what is ready
+/// counts as ready, or an edge or a report of it is still to come.
+pub fn lawful_worlds_lose_no_wake_up()
+    ensures { (s : ℕ) (c : ℕ) (truth : Opening → Dir → Bool) (steps : List WorldStep)
+        → IsLawful s c (first_world truth) steps
+        → LosesNoWakeUp s c (world_at s c (first_world truth) steps) }
+{}

@@ -1,0 +1,37 @@
+// What the calls of a table of registrations say to one another: openings of descriptors, keys of
+// registrations, directions, marks and events, and the history that one stripe of the table makes of
+// them. The definitions in specs/ say of such a history, entry by entry, what is live, waiting, due
+// and out after it, and which reply each call must have.
+//
+// The promise: in every legal history a registration runs at most once, only under its own opening
+// and only after it was due, and a due registration has exactly one event out.
+#![tactic(auto)]
+
+mod entry;
+mod event;
+mod laws;
+mod limits;
+mod opening;
+mod registration;
+mod worked;
+
+pub use entry::{
+    AskOutcome, CloseOutcome, DispatchOutcome, Entry, FiredKey, LoadKind, OpenOutcome,
+    RegisterOutcome, ReportOutcome, ShutKey, WithdrawOutcome,
+};
+pub use event::{Event, EventName};
+pub use laws::{
+    lawful_worlds_lose_no_wake_up, legal_draws_each_once, legal_has_one_event_each,
+    legal_is_consistent, legal_runs_once, legal_runs_what_was_registered, legal_tells_of_flags,
+    refusals_change_nothing,
+};
+pub use limits::{DESCRIPTORS, FLAGS, LAST_COUNT, PLACES, STRIPE_DESCRIPTORS, STRIPES};
+pub use opening::Opening;
+pub use registration::{Dir, Dirs, Key, Marks};
+pub use worked::{
+    worked_answers_are_legal, worked_events_are_legal, worked_marks_are_legal,
+    worked_refusals_are_legal,
+};
+
+#[cfg(test)]
+mod tests;

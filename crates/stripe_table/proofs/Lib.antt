@@ -1,0 +1,15 @@
+pub mod Lists
+pub mod Ordering
+pub mod Facts
+pub mod Naming
+pub mod Steps
+pub mod Reports
+pub mod Opens
+pub mod Registers
+pub mod Settling
+pub mod Taking
+pub mod Dispatches
+pub mod Closes
+pub mod Withdraws
+pub mod Asks
+pub mod Parts

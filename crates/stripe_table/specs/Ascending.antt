@@ -1,0 +1,16 @@
+-- Lists whose numbers ascend.
+use Rattle.std.specs.Prelude.{ℕ, ◌<◌, List, [], ◌∷◌}
+
+module _ {A : Type 0} (number : A → ℕ) where
+  abbrev pub AllAbove : ℕ → List A → Type 0
+  AllAbove n [] = Unit {0}
+  AllAbove n (x ∷ xs) = (n < number x) × AllAbove n xs
+
+  -- each number is below all behind it
+  abbrev pub Ascends : List A → Type 0
+  Ascends [] = Unit {0}
+  Ascends (x ∷ xs) = AllAbove (number x) xs × Ascends xs
+
+  abbrev pub AllBelow : ℕ → List A → Type 0
+  AllBelow n [] = Unit {0}
+  AllBelow n (x ∷ xs) = (number x < n) × AllBelow n xs

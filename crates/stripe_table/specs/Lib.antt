@@ -1,0 +1,9 @@
+pub mod Ascending
+pub mod Calls
+pub mod Descriptors
+pub mod Facts
+pub mod Firing
+pub mod Flags
+pub mod Fours
+pub mod Loads
+pub mod Stands

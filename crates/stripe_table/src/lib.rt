@@ -1,0 +1,26 @@
+// One stripe of the table of callbacks: the registrations of the 128 descriptors `fd` with the same
+// `fd % 32`, with their readiness, their events and the flags that haven't been asked to their end.
+// It is used by one thread at a time, lies behind one lock, and stores nothing of its past.
+//
+// The promise: each call adds exactly one entry to the history that the stripe stands for, and its
+// reply is the one that the definitions over that history give.
+#![tactic(auto)]
+
+mod calls;
+mod descriptor;
+mod firing;
+mod flags;
+mod four;
+mod laws;
+mod load;
+mod part;
+mod stripe;
+
+pub use calls::{
+    AskReply, CloseReply, DispatchReply, Fired, FiredList, OpenReply, RegisterReply, Reply,
+    ReportReply, ShutList, StripeCall, WithdrawReply,
+};
+pub use four::Four;
+pub use laws::a_legal_reply_is_in_kind;
+pub use load::{Load, Payload};
+pub use stripe::Stripe;

@@ -1,0 +1,37 @@
+// What a registration carries: a job, or nothing but the wish to be told.
+ghost use Rattle.std.specs.Prelude.{◌≡◌, ℕ, List};
+
+/// A job as contracts know it: by its tag alone. Jobs for tests have the empty tag.
+pub trait Load: Drop {
+    ghost tag: { Self → List (List ℕ) };
+}
+
+/// What is registered: a job that is handed back when it is to run, or a flag that is asked for.
+#[derive(Drop)]
+pub enum Payload<T> {
+    Job(T),
+    Flag,
+}
+
+impl<T> Payload<T> {
+    ghost use Rattle.stripe_table.specs.Loads.{is_flag, job_of};
+
+    pub fn is_flag(&self) -> bool
+        ensures { result ≡ is_flag self.now }
+    {
+        match self {
+            Payload::Job(_) => false,
+            Payload::Flag => true,
+        }
+    }
+
+    /// The job, or nothing for a flag.
+    pub fn into_job(self) -> Option<T>
+        ensures { result ≡ job_of self }
+    {
+        match self {
+            Payload::Job(job) => Some(job),
+            Payload::Flag => None,
+        }
+    }
+}

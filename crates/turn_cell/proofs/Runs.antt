@@ -1,0 +1,59 @@
+-- The one slot that a pass holds during a call, and what taking the turn tells.
+use Rattle.std.proofs.Common.{◌≡◌, ℕ, ◌%◌, ◌^◌, ◌≢◌, length, ⊎_elim, List, [], ◌∷◌, ◌++◌, sym, ap, ◌∙◌, arith}
+use Rattle.std.specs.Prelude.{Option, Some}
+use Rattle.std.proofs.lemmas.Option.{same_Some}
+use Rattle.atomic_table.specs.Table.{Me, rest}
+use Rattle.turn_cell.specs.declared.view.Turn.{Turn}
+use Rattle.turn_cell.specs.declared.view.Turn.TheVariants.{Idle, Holds}
+use Rattle.turn_cell.specs.declared.view.View.{View}
+use Rattle.turn_cell.specs.History.{Log}
+use Rattle.turn_cell.specs.View.{has_seen, seat_of, tried}
+use Rattle.turn_cell.specs.Rule.{HasAsked, HasTaken, IsAtRest}
+use Rattle.turn_cell.specs.Turns.{IsHeld}
+
+module _ {P : Type 0} where
+  abbrev lead : Option P → List (ℕ × Option P) → Option P
+  lead d [] = d
+  lead d (x ∷ xs) = x.1
+
+  pub alone : (m : List (ℕ × Option P)) (o : Option P) → m ≡ (0, o) ∷ [] → m ≡ (0, o) ∷ rest m
+  alone m o e = e ∙ ap (λ (z : List (ℕ × Option P)). (0, o) ∷ z) (sym (ap rest e))
+
+  pub same_part : (m : List (ℕ × Option P)) (p q : P) (o : Option P) → m ≡ (0, Some p) ∷ [] → m ≡ (0, o) ∷ rest m → o ≡ Some q → p ≡ q
+  same_part m p q o e f g = same_Some p q (ap (lead o) (sym e ∙ f) ∙ g)
+
+module _ {E P : Type 0} where
+  -- the slot was read and written twice
+  pub after_two : (m : Me (Option P) (View E)) (o x : Option P) (m' : Me (Option P) (View E)) (y : Option P) → m.1 ≡ (0, o) ∷ [] → m' ≡ (m.0, (0, x) ∷ rest m.1)
+      → ◌≡◌ {A = Me (Option P) (View E)} (m'.0, (0, y) ∷ rest m'.1) (m.0, (0, y) ∷ [])
+  after_two m o x m' y e f = λ i. ((f i).0, (0, y) ∷ (ap (λ (z : Me (Option P) (View E)). rest z.1) f ∙ ap rest e) i)
+
+module _ {E : Type 0} where
+  abbrev held_of : Log E → Turn E → Log E
+  held_of d (Holds l) = l
+  held_of d _ = d
+
+  pub held_list : (l k : Log E) → Holds l ≡ Holds k → l ≡ k
+  held_list l k e = ap (held_of l) e
+
+  abbrev pub has_seen_by : Log E → E → View E → View E
+  has_seen_by l e v = has_seen (l ++ (seat_of v, e) ∷ []) v
+
+module _ {E P : Type 0} (stands : P → Log E → Type 0) (name_of : P → List ℕ) where
+  pub took : (m m' : Me (Option P) (View E)) (n : ℕ) → HasAsked stands name_of m n m' → (n % 2 ≡ 1 → ⊥) → HasTaken stands name_of m n m'
+  took m m' n t even = ⊎_elim (λ (o : (n % 2 ≡ 1) × (m'.0 ≡ tried n Idle m.0) × (m'.1 ≡ m.1)). absurd (even o.0)) (λ (h : HasTaken stands name_of m n m'). h) t
+
+  pub found_held : (m m' : Me (Option P) (View E)) (n : ℕ) → HasAsked stands name_of m n m' → n % 2 ≡ 1 → (m'.0 ≡ tried n Idle m.0) × (m'.1 ≡ m.1)
+  found_held m m' n t odd = ⊎_elim (λ (o : (n % 2 ≡ 1) × (m'.0 ≡ tried n Idle m.0) × (m'.1 ≡ m.1)). (o.1, o.2)) (λ (h : HasTaken stands name_of m n m'). let e = h.2 in absurd (omega arith)) t
+
+  pub held_after : (m m' : Me (Option P) (View E)) (n : ℕ) → HasTaken stands name_of m n m' → (n ≡ 2 ^ 63 → ⊥) → IsAtRest m → IsHeld stands name_of m'
+  held_after m m' n t less at = let e = t.2 in let s = t.3 in (
+    t.0,
+    t.1,
+    ap (λ (v : View E). v.turn) t.4,
+    t.5 ∙ ap (λ (xs : List (ℕ × Option P)). (0, Some t.1) ∷ xs) at.1,
+    (t.6.0, t.6.1 ∙ sym (ap (λ (v : View E). v.name) t.4)),
+    (let d : length t.0 ≢ 2 ^ 62 = λ h. less (omega arith) in omega arith),
+    ap (λ (v : View E). v.gone) t.4 ∙ at.3,
+    λ h. at.4 (sym (ap (λ (v : View E). v.classes) t.4) ∙ h),
+  )

@@ -1,0 +1,84 @@
+-- A refusal or a head stays, whatever bytes follow.
+use Rattle.std.proofs.Common.{◌≡◌, ◌≢◌, ℕ, ◌+◌, ◌-◌, ◌<◌, ◌≤◌, ◌⊎◌, Bool, true, false, cond, ◌==◌, ◌||◌, List, ◌++◌, length, take, refl, sym, ap, ◌∙◌, subst, arith, append_assoc, length-append, inl, inr, nat_lt}
+use Rattle.std.proofs.Math.Seq.{take-append-add}
+use Rattle.std.specs.List.{list_any}
+use Rattle.std.proofs.lemmas.Bool.{cases_lt}
+use Rattle.std.proofs.lemmas.Bool.Decides.{nat_tests}
+use Rattle.std.proofs.lemmas.List.{take_all, take-append-le}
+use Rattle.std.proofs.lemmas.List.Folds.{list_any-append}
+use Rattle.httparse.specs.Grammar.{ReadsRequest, NeverHasRequest}
+use Rattle.httparse.proofs.GrammarLemmas.{ReadsRequest-append}
+use Rattle.warp_request.specs.declared.limits.TheConstants.{HEAD_LIMIT}
+use Rattle.warp_request.specs.declared.status.TheConstants.{URI_TOO_LONG, FIELDS_TOO_LARGE}
+use Rattle.warp_request.specs.Lines.{skip_empty, has_line}
+use Rattle.warp_request.specs.Next.{window_of, waits, by_reading, next_of}
+use Rattle.warp_request.specs.Reading.{Reading, whole, unfinished, invalid, reading}
+use Rattle.warp_request.specs.Verdict.{Verdict, more, refused}
+use Rattle.warp_request.proofs.LineRuleLemmas.{skip_empty-append}
+use Rattle.warp_request.proofs.NextLemmas.{next_by_reading, next_whole, next_never}
+
+-- a line's end that is there stays there
+pub has_line-append : (s t : List ℕ) → has_line s ≡ true → has_line (s ++ t) ≡ true
+unfolding has_line
+has_line-append s t line =
+    ap (list_any (λ b. b == 10)) (skip_empty-append s t line)
+    ∙ list_any-append (λ b. b == 10) (skip_empty s) t ∙ ap (λ v. v || list_any (λ b. b == 10) t) line
+
+window-append : (s t : List ℕ) → length s < HEAD_LIMIT → window_of (s ++ t) ≡ s ++ take (HEAD_LIMIT - length s) t
+window-append s t short =
+    let e : HEAD_LIMIT ≡ length s + (HEAD_LIMIT - length s) = omega arith in
+    ap (λ (n : ℕ). take n (s ++ t)) e ∙ take-append-add s t (HEAD_LIMIT - length s)
+
+pub waits_short : (code : ℕ) (s : List ℕ) → length s < HEAD_LIMIT → waits code s ≡ more
+unfolding waits
+waits_short code s short = let test : nat_lt (length s) HEAD_LIMIT ≡ true = grind (arith, nat_tests) in rw test refl
+
+pub waits_long : (code : ℕ) (s : List ℕ) → HEAD_LIMIT ≤ length s → waits code s ≡ refused code
+unfolding waits
+waits_long code s long = let test : nat_lt (length s) HEAD_LIMIT ≡ false = grind (arith, nat_tests) in rw test refl
+
+never-append : (w t : List ℕ) → NeverHasRequest w → NeverHasRequest (w ++ t)
+never-append w t nay after head rest x = nay (t ++ after) head rest (subst (λ (u : List ℕ). ReadsRequest u head rest) (append_assoc w t after) x)
+
+-- a short window, which is the bytes themselves
+short_grows : (s t : List ℕ) (v : Verdict) (line : Bool) (r : Reading s) → length s < HEAD_LIMIT → has_line s ≡ line
+    → cond line (by_reading s s r) (waits URI_TOO_LONG s) ≡ v → v ≢ more → next_of (s ++ t) ≡ v
+unfolding by_reading
+short_grows s t v false r short is same settled = absurd (settled (sym same ∙ waits_short URI_TOO_LONG s short))
+short_grows s t v true (whole h rest x) short is same settled =
+    let window = window-append s t short in
+    next_whole (s ++ t) h (rest ++ take (HEAD_LIMIT - length s) t)
+    (ap has_line window ∙ has_line-append s (take (HEAD_LIMIT - length s) t) is)
+    (subst (λ (u : List ℕ). ReadsRequest u h (rest ++ take (HEAD_LIMIT - length s) t)) (sym window) (ReadsRequest-append s h rest (take (HEAD_LIMIT - length s) t) x)) ∙ same
+short_grows s t v true (unfinished none may) short is same settled = absurd (settled (sym same ∙ waits_short FIELDS_TOO_LARGE s short))
+short_grows s t v true (invalid nay) short is same settled =
+    let window = window-append s t short in
+    next_never (s ++ t) (ap has_line window ∙ has_line-append s (take (HEAD_LIMIT - length s) t) is)
+    (subst NeverHasRequest (sym window) (never-append s (take (HEAD_LIMIT - length s) t) nay)) ∙ same
+
+next_short : (s : List ℕ) → length s < HEAD_LIMIT → next_of s ≡ cond (has_line s) (by_reading s s (reading s)) (waits URI_TOO_LONG s)
+next_short s short =
+    next_by_reading s ∙ ap (λ (w : List ℕ). cond (has_line w) (by_reading s w (reading w)) (waits URI_TOO_LONG s)) (take_all HEAD_LIMIT s (omega arith))
+
+long_same : (s t w : List ℕ) (r : Reading w) → HEAD_LIMIT ≤ length s → by_reading s w r ≡ by_reading (s ++ t) w r
+unfolding by_reading
+long_same s t w (whole h rest x) long = refl
+long_same s t w (unfinished none may) long =
+    waits_long FIELDS_TOO_LARGE s long ∙ sym (waits_long FIELDS_TOO_LARGE (s ++ t) (omega (arith, length-append s t)))
+long_same s t w (invalid nay) long = refl
+
+long_grows : (s t : List ℕ) → HEAD_LIMIT ≤ length s → next_of s ≡ next_of (s ++ t)
+long_grows s t long =
+    next_by_reading s
+    ∙ ap (λ v. cond (has_line (window_of s)) v (waits URI_TOO_LONG s)) (long_same s t (window_of s) (reading (window_of s)) long)
+    ∙ ap (λ v. cond (has_line (window_of s)) (by_reading (s ++ t) (window_of s) (reading (window_of s))) v) (waits_long URI_TOO_LONG s long ∙ sym (waits_long URI_TOO_LONG (s ++ t) (omega (arith, length-append s t))))
+    ∙ ap (λ (w : List ℕ). cond (has_line w) (by_reading (s ++ t) w (reading w)) (waits URI_TOO_LONG (s ++ t))) (sym (take-append-le HEAD_LIMIT s t long))
+    ∙ sym (next_by_reading (s ++ t))
+
+-- the law: what is settled stays
+pub next_stays : (s t : List ℕ) (v : Verdict) → next_of s ≡ v → v ≢ more → next_of (s ++ t) ≡ v
+next_stays s t v same settled = go (cases_lt (length s) HEAD_LIMIT)
+  where
+    go : (length s < HEAD_LIMIT) ⊎ (HEAD_LIMIT ≤ length s) → next_of (s ++ t) ≡ v
+    go (inl short) = short_grows s t v (has_line s) (reading s) short refl (sym (next_short s short) ∙ same) settled
+    go (inr long) = sym (long_grows s t long) ∙ same

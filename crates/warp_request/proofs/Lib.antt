@@ -1,0 +1,15 @@
+pub mod BodyLemmas
+pub mod BodyReaderLemmas
+pub mod CheckLemmas
+pub mod ConnectionLemmas
+pub mod FieldLemmas
+pub mod GrowthLemmas
+pub mod HostLemmas
+pub mod LineLemmas
+pub mod LineRuleLemmas
+pub mod NamedLemmas
+pub mod NextLaws
+pub mod NextLemmas
+pub mod RoomLemmas
+pub mod ShownLemmas
+pub mod TargetLemmas

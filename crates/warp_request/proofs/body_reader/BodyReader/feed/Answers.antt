@@ -1,0 +1,50 @@
+use Rattle.std.proofs.Common.{◌≡◌, ◌+◌, ◌-◌, ℕ, List, ◌++◌, length, take, drop, ◌∙◌, sym, ap, subst, append_assoc, length-drop, refl, arith}
+use Rattle.std.proofs.Math.Seq.{take-add}
+use Rattle.std.proofs.lemmas.List.{take_all}
+use Rattle.warp_request.specs.declared.body_reader.BodyReader.{BodyReader}
+use Rattle.warp_request.specs.declared.body_reader.BodyState.{BodyState}
+use Rattle.warp_request.specs.declared.body_reader.BodyState.TheVariants as States
+use Rattle.warp_request.specs.BodyReader.{StandsFor, state_of, state_verdict}
+use Rattle.warp_request.proofs.BodyReaderLemmas.{says_of_all}
+use Rattle.warp_request.proofs.body_reader.BodyReader.feed.Goals as goal
+use Rattle.warp_request.proofs.body_reader.BodyReader.feed.Goals.{then-loop-used-test+else-is_open, else-loop-used-test}
+
+-- what is left of a piece, as a slice of it
+rest_is : (piece : List ℕ) (used : ℕ) → take (length piece - used) (drop used piece) ≡ drop used piece
+rest_is piece used = let size = length-drop used piece in take_all (length piece - used) (drop used piece) (omega (arith, size))
+
+-- the bytes used, and those used next
+used_next : (fed piece : List ℕ) (used n : ℕ) → fed ++ take used piece ++ take n (take (length piece - used) (drop used piece)) ≡ fed ++ take (used + n) piece
+used_next fed piece used n =
+    append_assoc fed (take used piece) (take n (take (length piece - used) (drop used piece)))
+    ∙ ap (λ (t : List ℕ). fed ++ (take used piece ++ take n t)) (rest_is piece used)
+    ∙ ap (λ (t : List ℕ). fed ++ t) (sym (take-add used n piece))
+
+pub loop-used-preserved : goal.loop-used-preserved
+loop-used-preserved c =
+    let piece = c.args.piece.now in
+    let used = c.loop-used.used in
+    let n = c.advance-used.result in
+    let size = ap (λ (t : List ℕ). length t) (rest_is piece used) ∙ length-drop used piece in
+    record {
+      within = omega (arith, c.advance-used.ensures.within, size, c.loop-used-test.true);
+      stands = λ framing fed first.
+          subst (λ (t : List ℕ). StandsFor c.advance-used.new.self framing t) (used_next fed piece used n)
+          (c.advance-used.ensures.stands framing (fed ++ take used piece) (c.loop-used.invariant.stands framing fed first));
+      ended = λ over.
+          let same = c.loop-used.invariant.ended over in
+          absurd (over (ap (λ (r : BodyReader). state_of r) (sym same.1) ∙ c.if-is_open.ensures.0 refl));
+    }
+
+pub returns-clause-state : goal.returns-clause-state
+returns-clause-state c framing fed first =
+    let reader = c.loop-used.self in
+    let used = c.loop-used.used in
+    let piece = c.args.piece.now in
+    let all : state_of reader ≡ States.More → used ≡ length piece =
+    λ opens. elim c.loop-used-test.branch [
+      | then-loop-used-test+else-is_open w ↦ let shut = w.if-is_open.ensures.1 opens in absurd cc
+      | else-loop-used-test w ↦ omega (arith, w.loop-used-test.false, c.loop-used.invariant.within)
+    ] in
+    says_of_all reader.place reader.sum framing fed piece used c.loop-used.invariant.within (c.loop-used.invariant.stands framing fed first) all
+    ∙ ap (λ (s : BodyState). state_verdict s (length fed + used)) (sym c.state.ensures)

@@ -1,0 +1,14 @@
+pub mod Body
+pub mod BodyReader
+pub mod Checks
+pub mod Decide
+pub mod Fields
+pub mod Laws
+pub mod Lines
+pub mod NamedLines
+pub mod Next
+pub mod Parsed
+pub mod Reading
+pub mod Shown
+pub mod Target
+pub mod Verdict

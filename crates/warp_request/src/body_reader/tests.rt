@@ -1,0 +1,224 @@
+// Bodies as a client may send them, whole, broken and cut at any place.
+use super::{BodyReader, BodyState};
+use crate::verdict::Framing;
+use std::alloc::{AllocError, Global};
+use std::test::Fail;
+
+/// How many bytes of the pieces a reader uses in all, and where it stands then.
+fn read(framing: Framing, pieces: &[&[u8]]) -> (usize, BodyState) {
+    let mut reader = BodyReader::new(framing);
+    let mut used: usize = 0;
+    let mut state = BodyState::More;
+    for piece in pieces {
+        let fed = reader.feed(piece);
+        used = used.saturating_add(fed.used);
+        state = fed.state;
+    }
+    (used, state)
+}
+
+#[test]
+fn a_body_has_the_bytes_that_its_framing_says(rt: HostRuntime) {
+    for (framing, piece, used, state) in [
+        (Framing::None, b"hello".as_slice(), 0, BodyState::Whole),
+        (Framing::Length(0), b"hello".as_slice(), 0, BodyState::Whole),
+        (Framing::Length(5), b"hello".as_slice(), 5, BodyState::Whole),
+        (
+            Framing::Length(5),
+            b"hello GET".as_slice(),
+            5,
+            BodyState::Whole,
+        ),
+        (Framing::Length(9), b"hello".as_slice(), 5, BodyState::More),
+        (
+            Framing::Chunked,
+            b"5\r\nhello\r\n0\r\n\r\nGET".as_slice(),
+            15,
+            BodyState::Whole,
+        ),
+        (
+            Framing::Chunked,
+            b"5;a=b\r\nhello\r\n0\r\nT: 1\r\n\r\nGET".as_slice(),
+            25,
+            BodyState::Whole,
+        ),
+        (
+            Framing::Chunked,
+            b"a\t \r\n\r\n\0\r\n\n\n\r\r5\r\n0 ;\x80\r\n\r\n".as_slice(),
+            25,
+            BodyState::Whole,
+        ),
+        (
+            Framing::Chunked,
+            b"00000001\r\na\r\n00\r\n\r\n".as_slice(),
+            19,
+            BodyState::Whole,
+        ),
+        (
+            Framing::Chunked,
+            b"5\r\nhello\r\n0\r\nT: 1\r\n".as_slice(),
+            19,
+            BodyState::More,
+        ),
+        (
+            Framing::Chunked,
+            b"100000\r\n".as_slice(),
+            8,
+            BodyState::More,
+        ),
+    ] {
+        assert_eq!(rt; read(framing, &[piece]), (used, state));
+    }
+}
+
+#[test]
+fn hostile_framings_are_refused(rt: HostRuntime) {
+    for (code, body) in [
+        (400, b"\r".as_slice()),
+        (400, b"\n".as_slice()),
+        (400, b";".as_slice()),
+        (400, b"g".as_slice()),
+        (400, b"000000005".as_slice()),
+        (400, b"5\n".as_slice()),
+        (400, b"5;\n".as_slice()),
+        (400, b"5;a\n".as_slice()),
+        (400, b"5;a=\0".as_slice()),
+        (400, b"5;\x7f".as_slice()),
+        (400, b"5\r\r".as_slice()),
+        (400, b"5;\ra".as_slice()),
+        (400, b"5;a\r\r".as_slice()),
+        (400, b"5 5\r5".as_slice()),
+        (400, b"5x".as_slice()),
+        (400, b"5\r\nhello6".as_slice()),
+        (400, b"5\r\nhello\n".as_slice()),
+        (400, b"5\r\nhello\r6".as_slice()),
+        (400, b"1\r\na\r\n\r".as_slice()),
+        (400, b"0\r\n\n".as_slice()),
+        (400, b"0\r\n\r\r".as_slice()),
+        (400, b"0\r\nT: 1\n".as_slice()),
+        (400, b"0\r\nT: \0".as_slice()),
+        (400, b"0\r\nT: 1\rU".as_slice()),
+        (413, b"100001\r\n".as_slice()),
+        (413, b"ffffffff\r\n".as_slice()),
+        (413, b"1\r\na\r\n100000\r\n".as_slice()),
+    ] {
+        let state = BodyState::Refuse(code);
+        assert_eq!(rt;
+            read(Framing::Chunked, &[body]),
+            (body.len(), state),
+            "{body:?}"
+        );
+        let (_, early) = body
+            .split_last()
+            .map_or((0, body), |(last, early)| (*last, early));
+        assert_eq!(rt;
+            read(Framing::Chunked, &[early]),
+            (early.len(), BodyState::More),
+            "{body:?}"
+        );
+    }
+}
+
+/// A text with so many letters between two others.
+fn padded(alloc: Global, front: &[u8], letters: usize, back: &[u8]) -> Result<Vec<u8>, AllocError> {
+    let mut text = Vec::new(alloc);
+    text.extend_from_slice(front)?;
+    for _ in 0..letters {
+        text.push(b'a')?;
+    }
+    text.extend_from_slice(back)?;
+    Ok(text)
+}
+
+#[test]
+fn lines_and_trailers_have_their_limits(rt: HostRuntime) -> Result<(), Fail> {
+    for (front, letters, back, used, state) in [
+        // A chunk line of 256 bytes, and one of 257.
+        (
+            b"0;".as_slice(),
+            252,
+            b"\r\n\r\n".as_slice(),
+            258,
+            BodyState::Whole,
+        ),
+        (
+            b"0;".as_slice(),
+            253,
+            b"\r\n\r\n".as_slice(),
+            256,
+            BodyState::Refuse(400),
+        ),
+        // A trailer section of 4,096 bytes, and one of 4,097.
+        (
+            b"0\r\n".as_slice(),
+            4_092,
+            b"\r\n\r\n".as_slice(),
+            4_099,
+            BodyState::Whole,
+        ),
+        (
+            b"0\r\n".as_slice(),
+            4_093,
+            b"\r\n\r\n".as_slice(),
+            4_099,
+            BodyState::Refuse(431),
+        ),
+        // The 4,096th byte is itself a fault.
+        (
+            b"0\r\n".as_slice(),
+            4_095,
+            b"\n".as_slice(),
+            4_099,
+            BodyState::Refuse(400),
+        ),
+        (
+            b"0\r\n".as_slice(),
+            4_095,
+            b"\r".as_slice(),
+            4_099,
+            BodyState::Refuse(431),
+        ),
+    ] {
+        let body = padded(rt.alloc(), front, letters, back)?;
+        assert_eq!(rt;
+            read(Framing::Chunked, &[body.as_slice()]),
+            (used, state),
+            "{letters}"
+        );
+    }
+    Ok(())
+}
+
+#[test]
+fn a_body_may_be_cut_anywhere(rt: HostRuntime) {
+    let body = b"5;a=b\r\nhello\r\n1\r\n!\r\n0\r\nT: 1\r\n\r\n".as_slice();
+    for at in 0..=body.len() {
+        let (front, back) = body.split_at(at);
+        assert_eq!(rt;
+            read(Framing::Chunked, &[front, back]),
+            (body.len(), BodyState::Whole),
+            "{at}"
+        );
+        let (front, back) = body[..5].split_at(at.min(5));
+        assert_eq!(rt;
+            read(Framing::Length(5), &[front, back]),
+            (5, BodyState::Whole),
+            "{at}"
+        );
+    }
+}
+
+#[test]
+fn a_settled_body_uses_nothing_more(rt: HostRuntime) {
+    let whole = [
+        b"2\r\nhi\r\n0\r\n\r\n".as_slice(),
+        b"GET".as_slice(),
+        b"\r\n".as_slice(),
+    ];
+    assert_eq!(rt; read(Framing::Chunked, &whole), (12, BodyState::Whole));
+    let refused = [b"x".as_slice(), b"2\r\nhi\r\n0\r\n\r\n".as_slice()];
+    assert_eq!(rt;
+        read(Framing::Chunked, &refused),
+        (1, BodyState::Refuse(400))
+    );
+}

@@ -1,0 +1,45 @@
+// The Connection lines of a head: whether the connection stays open (RFC 9112, section 9.3).
+ghost use Rattle.std.specs.Prelude.{◌≡◌, ℕ, List, [], ◌∷◌, ◌++◌};
+ghost use Rattle.warp_request.specs.Fields.{values_of, stays_open as stays_open_by};
+ghost use Rattle.warp_request.specs.NamedLines.{connection_lines, connection_with};
+
+use crate::names::{CLOSE, CONNECTION, KEEP_ALIVE};
+use crate::values::{has_word, is_same_word};
+
+/// Which of the two words are members of the Connection list.
+#[derive(Clone, Copy)]
+pub(crate) struct ConnectionLines {
+    pub close: bool,
+    pub keep_alive: bool,
+}
+
+impl ConnectionLines {
+    /// With one more field.
+    pub(crate) fn with(self, name: &[u8], value: &[u8]) -> ConnectionLines
+        ensures { (fields : List (List ℕ × List ℕ)) → self ≡ connection_lines (values_of CONNECTION.now fields)
+            → result ≡ connection_lines (values_of CONNECTION.now (fields ++ (name.now, value.now) ∷ [])) }
+    {
+        if is_same_word(name, CONNECTION) {
+            self.with_value(value)
+        } else {
+            self
+        }
+    }
+
+    fn with_value(self, value: &[u8]) -> ConnectionLines
+        ensures { result ≡ connection_with self value.now }
+    {
+        ConnectionLines {
+            close: self.close || has_word(value, CLOSE),
+            keep_alive: self.keep_alive || has_word(value, KEEP_ALIVE),
+        }
+    }
+
+    /// Whether the connection stays open behind the answer to a request of this minor version.
+    #[tactic(auto, unfolding(crate::specs::Fields::stays_open, crate::specs::NamedLines::connection_lines))]
+    pub(crate) fn stays_open(self, minor: u8) -> bool
+        ensures { (values : List (List ℕ)) → self ≡ connection_lines values → result ≡ stays_open_by minor values }
+    {
+        !self.close && (minor == 1 || self.keep_alive)
+    }
+}

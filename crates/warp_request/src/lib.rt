@@ -1,0 +1,31 @@
+//! What the bytes after the last whole request begin with: the head of a request, something to be
+//! refused, or too little to say. Heads are read where they lie; nothing is copied or allocated.
+//!
+//! The promise: `next` answers exactly what the definition `next_of` says of the same bytes.
+#![tactic(auto)]
+
+mod body_place;
+mod body_reader;
+mod checks;
+mod connection;
+mod fields;
+mod heads;
+mod host;
+mod limits;
+mod lines;
+mod names;
+mod scratch;
+pub mod status;
+mod target;
+#[cfg(test)]
+mod tests;
+mod values;
+mod verdict;
+
+pub use body_place::{CHUNK_DIGITS, CHUNK_LINE_LIMIT, TRAILER_LIMIT};
+pub use body_reader::{BodyReader, BodyState, Fed};
+pub use heads::next;
+pub use limits::{BODY_LIMIT, FIELD_LIMIT, FIELD_ROOM, HEAD_LIMIT};
+pub use lines::is_blank;
+pub use scratch::Scratch;
+pub use verdict::{Framing, HeadInfo, Next, Span};

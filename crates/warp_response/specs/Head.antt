@@ -1,0 +1,106 @@
+-- The bytes of a head (RFC 9112, sections 2 to 4).
+use Rattle.std.specs.Prelude.{ℕ, List, [], ◌∷◌, ◌++◌, Bool, Option, Some, None, codes, decimal, nat_lt, if◌then◌else◌, ◌==◌}
+use Rattle.warp_response.specs.declared.response.Kind.{Kind}
+use Rattle.warp_response.specs.declared.response.Kind.TheVariants.{Html, Plain, Css, JavaScript, Json, Xml, Svg, Png, Jpeg, Gif, OctetStream}
+use Rattle.warp_response.specs.declared.response.LastWord.{LastWord}
+use Rattle.warp_response.specs.declared.response.LastWord.TheVariants.{Nothing, Close, KeepAlive}
+use Rattle.warp_response.specs.Moment.{date_of, last_moment}
+
+-- what the head of an answer says: its status, the length of its content, the kind of its file, the bytes of its Location, and whether it lists the methods that are served
+pub record Head : Type 0 where
+  pub status : ℕ
+  pub length : ℕ
+  pub kind : Option Kind
+  pub place : Option (List ℕ)
+  pub allow : Bool
+
+-- the statuses that are sent, each with its reason phrase
+abbrev pub phrases : List (ℕ × List ℕ)
+phrases =
+    (200, codes "OK")
+    ∷ (301, codes "Moved Permanently")
+    ∷ (400, codes "Bad Request")
+    ∷ (404, codes "Not Found")
+    ∷ (405, codes "Method Not Allowed")
+    ∷ (413, codes "Content Too Large")
+    ∷ (414, codes "URI Too Long")
+    ∷ (417, codes "Expectation Failed")
+    ∷ (431, codes "Request Header Fields Too Large")
+    ∷ (501, codes "Not Implemented")
+    ∷ []
+
+-- the phrase that a table has for a status, and nothing where it has none
+abbrev pub phrase_in : List (ℕ × List ℕ) → ℕ → List ℕ
+phrase_in [] status = []
+phrase_in (row ∷ rows) status = if status == row.0 then row.1 else phrase_in rows status
+
+-- the reason phrase of a status
+abbrev pub phrase_of : ℕ → List ℕ
+phrase_of status = phrase_in phrases status
+
+-- a line of a head
+abbrev pub field_line : List ℕ → List ℕ → List ℕ
+field_line name value = name ++ codes ": " ++ value ++ codes "\r\n"
+
+-- the first line
+unfoldable pub status_line : ℕ → List ℕ
+status_line status = codes "HTTP/1.1 " ++ decimal status ++ codes " " ++ phrase_of status ++ codes "\r\n"
+
+-- Date, which a moment from the year 10000 on hasn't
+unfoldable pub date_line : ℕ → List ℕ
+date_line moment = if nat_lt moment last_moment then field_line (codes "Date") (date_of moment) else []
+
+-- the media type of a kind of file
+abbrev pub kind_text : Kind → List ℕ
+kind_text Html = codes "text/html; charset=utf-8"
+kind_text Plain = codes "text/plain; charset=utf-8"
+kind_text Css = codes "text/css; charset=utf-8"
+kind_text JavaScript = codes "text/javascript; charset=utf-8"
+kind_text Json = codes "application/json"
+kind_text Xml = codes "application/xml"
+kind_text Svg = codes "image/svg+xml"
+kind_text Png = codes "image/png"
+kind_text Jpeg = codes "image/jpeg"
+kind_text Gif = codes "image/gif"
+kind_text OctetStream = codes "application/octet-stream"
+
+-- Content-Type, where a file is shown
+unfoldable pub kind_line : Option Kind → List ℕ
+kind_line None = []
+kind_line (Some kind) = field_line (codes "Content-Type") (kind_text kind)
+
+-- Content-Length
+unfoldable pub length_line : ℕ → List ℕ
+length_line size = field_line (codes "Content-Length") (decimal size)
+
+-- Location, where there is one
+unfoldable pub place_line : Option (List ℕ) → List ℕ
+place_line None = []
+place_line (Some place) = field_line (codes "Location") place
+
+-- how this server calls itself
+abbrev pub server_line : List ℕ
+server_line = field_line (codes "Server") (codes "warp-profile")
+
+-- Allow, where the methods that are served are listed
+unfoldable pub allow_line : Bool → List ℕ
+allow_line allow = if allow then field_line (codes "Allow") (codes "GET, HEAD, OPTIONS") else []
+
+-- Connection, where anything is to be said of it
+unfoldable pub last_line : LastWord → List ℕ
+last_line Nothing = []
+last_line Close = field_line (codes "Connection") (codes "close")
+last_line KeepAlive = field_line (codes "Connection") (codes "keep-alive")
+
+-- the head, with the empty line at its end
+unfoldable pub head_text : Head → ℕ → LastWord → List ℕ
+head_text head moment last =
+    status_line head.status
+    ++ date_line moment
+    ++ server_line
+    ++ kind_line head.kind
+    ++ length_line head.length
+    ++ place_line head.place
+    ++ allow_line head.allow
+    ++ last_line last
+    ++ codes "\r\n"

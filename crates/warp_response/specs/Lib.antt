@@ -1,0 +1,4 @@
+pub mod Moment
+pub mod Head
+pub mod Reply
+pub mod Text

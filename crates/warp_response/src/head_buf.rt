@@ -1,0 +1,69 @@
+// The buffer in which heads are written: made once for a connection, with room for every head.
+ghost use Rattle.std.specs.Prelude.{◌≡◌, ◌≤◌, ◌+◌, ◌++◌, ℕ, List, [], IfOk, length, take, vec_len};
+
+use std::alloc::{AllocError, Global};
+use std::marker::Model;
+
+/// Bytes of the longest head: Location repeats at most two spans of a target of 8,192 bytes, and 512 bytes are more than
+/// everything else needs.
+pub(crate) const ROOM: usize = 16_896;
+
+/// A head, in a buffer with room for every one.
+#[derive(Drop)]
+pub struct HeadBuf {
+    buf: Vec<u8>,
+    len: usize,
+}
+
+impl Model for HeadBuf {
+    ghost use Rattle.std.specs.Prelude.{◌≡◌, ◌≤◌, ℕ, List, take, vec_len};
+    ghost use Rattle.warp_response.specs.declared.head_buf.TheConstants.{ROOM};
+
+    ghost Value = { List ℕ };
+
+    ghost view = { λ a. take a.len a.buf.items };
+
+    ghost invariant = { λ a. (a.len ≤ ROOM) × (vec_len a.buf ≡ ROOM) };
+}
+
+impl HeadBuf {
+    /// An empty head. The room is taken here and given back with the value; an error is want of memory.
+    pub fn new(alloc: Global) -> Result<HeadBuf, AllocError>
+        ensures { IfOk result (λ head. head ≡ []) }
+    {
+        let buf = vec![in alloc; 0u8; ROOM]?;
+        Ok(HeadBuf { buf, len: 0 })
+    }
+
+    /// The bytes of the head.
+    pub fn bytes(&self) -> &[u8]
+        ensures { result.now ≡ self.now }
+    {
+        &self.buf[..self.len]
+    }
+
+    /// Forgets the head, and keeps the room.
+    pub(crate) fn clear(&mut self)
+        ensures { self.new ≡ [] }
+    {
+        self.len = 0;
+    }
+
+    /// Writes the piece behind what is there. The caller owes that it fits.
+    pub(crate) fn add(&mut self, piece: &[u8])
+        requires { length self.old + length piece.now ≤ ROOM }
+        ensures is { self.new ≡ self.old ++ piece.now }
+        ensures long { length self.new ≡ length self.old + length piece.now }
+    {
+        write_at(&mut self.buf, self.len, piece);
+        self.len += piece.len();
+    }
+}
+
+/// Writes the piece behind the first `at` bytes of the buffer.
+fn write_at(buf: &mut [u8], at: usize, piece: &[u8])
+    requires { at + length piece.now ≤ length buf.old }
+    ensures { take (at + length piece.now) buf.new ≡ take at buf.old ++ piece.now }
+{
+    buf[at..at + piece.len()].copy_from_slice(piece);
+}
