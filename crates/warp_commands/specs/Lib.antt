@@ -1,0 +1,5 @@
+pub mod Causes
+pub mod Served
+pub mod Statuses
+pub mod Steps
+pub mod Words

@@ -1,0 +1,38 @@
+-- What each end of a command is called, by number and in words.
+use Rattle.std.specs.Prelude.{◌≡◌, ℕ, ◌≤◌, ◌⊎◌, List, [], ◌++◌, Option, option_map, codes}
+use Rattle.outside.specs.Counts.{Rises}
+use Rattle.warp_commands.specs.declared.status.Status.{Status}
+use Rattle.warp_commands.specs.declared.status.Status.TheVariants.{Clean, Cut, Usage, ReadFault, WriteFault, FileFault, NoMemory, NoSuchFolder, NotReady}
+
+-- the exit status
+abbrev pub code_of : Status → ℕ
+code_of Clean = 0
+code_of Cut = 1
+code_of Usage = 2
+code_of ReadFault = 3
+code_of WriteFault = 4
+code_of FileFault = 5
+code_of NoMemory = 6
+code_of NoSuchFolder = 7
+code_of NotReady = 13
+
+-- the line on the error stream, with its LF
+abbrev pub line_of : Status → List ℕ
+line_of Clean = []
+line_of Cut = codes "input cut short\n"
+line_of Usage = codes "usage: warp_serve connection ROOT | serve ROOT ADDR PORT DISPATCHERS CONNECTIONS SECONDS | drive SEED CONNECTIONS REQUESTS DISPATCHERS\n"
+line_of ReadFault = codes "read fault\n"
+line_of WriteFault = codes "write fault\n"
+line_of FileFault = codes "file fault\n"
+line_of NoMemory = codes "out of memory\n"
+line_of NoSuchFolder = codes "no such folder\n"
+line_of NotReady = codes "not ready\n"
+
+-- a sink got exactly this line, unless its count of faults rose
+abbrev pub TellsLine : List ℕ → (old new : Option (List ℕ)) → (before after : ℕ) → Type 0
+TellsLine line old new before after =
+    (before ≤ after) × (Rises before after ⊎ (new ≡ option_map (λ bytes. bytes ++ line) old))
+
+-- an exit status is that of an end of which this holds
+abbrev pub IsStatus : ℕ → (Status → Type 0) → Type 0
+IsStatus code P = (status : Status) × (code ≡ code_of status) × P status
