@@ -1,0 +1,42 @@
+//! The program `warp_serve`: makes the real link, files, clock and error stream, and hands them to the command.
+//!
+//! Its promise is that of `warp_commands::run_connection`, over these very things.
+#![tactic(auto)]
+
+use outside::{OsClock, OsFiles, StdLink, StdSink};
+use std::env;
+use std::io::ErrorKind;
+use std::process::ExitCode;
+use warp_commands::{Status, refuse, run_connection};
+
+fn main(rt: HostRuntime) -> ExitCode {
+    let mut errors = StdSink::new(rt.stderr());
+    let code = match words_of(&rt) {
+        Ok(words) => run_connection(
+            rt.alloc(),
+            &words,
+            &mut StdLink::new(rt.stdin(), rt.stdout()),
+            &mut OsFiles::new(rt.alloc(), &rt),
+            &mut OsClock::new(&rt),
+            &mut errors,
+        ),
+        Err(status) => refuse(&mut errors, status),
+    };
+    ExitCode::from(code)
+}
+
+/// The words of the command line without the program's name. A word that is no text is no word of a command.
+fn words_of(rt: &HostRuntime) -> Result<Vec<String>, Status> {
+    let args = match env::args(rt) {
+        Ok(args) => args,
+        Err(e) if e.kind() == ErrorKind::InvalidData => return Err(Status::Usage),
+        Err(_) => return Err(Status::NoMemory),
+    };
+    let mut words = Vec::new(rt.alloc());
+    for word in args.skip(1) {
+        if words.push(word).is_err() {
+            return Err(Status::NoMemory);
+        }
+    }
+    Ok(words)
+}
