@@ -1,8 +1,7 @@
 -- What a flag's owner is told is what the definitions say.
-use Rattle.std.proofs.Common.{◌≡◌, ℕ, zero, suc, ◌+◌, ◌-◌, ◌*◌, ◌/◌, ◌%◌, ◌≤◌, ◌<◌, ◌≢◌, ◌⊎◌, inl, inr, ⊎_elim, List, [], ◌∷◌, ◌++◌, map, length, set, true, false, Bool, sym, refl, ap, ◌∙◌, subst, arith, length-set}
-use Rattle.std.specs.Prelude.{Option, Some, None, filter, if◌then◌else◌, not, ◌||◌, ◌&&◌, ◌==◌, slice_get}
-use Rattle.std.specs.List.{list_any}
-use Rattle.std.proofs.lemmas.Bool.{both_ways, or_parts, and_from, cond-true, cond-false, eqb-true, eq-eqb, ne_eqb, cases_Bool, false_from_ne_true, not-true, not_from_false}
+use Rattle.std.proofs.Common.{◌≡◌, ℕ, ◌+◌, ◌-◌, ◌*◌, ◌/◌, ◌<◌, ◌≢◌, inl, ⊎_elim, List, [], ◌∷◌, map, set, true, false, Bool, sym, refl, ap, ◌∙◌, subst, arith, length-set}
+use Rattle.std.specs.Prelude.{Option, Some, None, filter, not, ◌&&◌, ◌==◌, slice_get}
+use Rattle.std.proofs.lemmas.Bool.{both_ways, and_from, cond-true, cond-false, eqb-true, eq-eqb, ne_eqb, cases_Bool, false_from_ne_true}
 use Rattle.std.proofs.lemmas.Option.{same_Some, none-some}
 use Rattle.reg_keys.specs.declared.opening.Opening.{Opening}
 use Rattle.reg_keys.specs.declared.registration.Key.{Key}
@@ -11,24 +10,22 @@ use Rattle.reg_keys.specs.declared.entry.AskOutcome.TheVariants as Asks
 use Rattle.reg_keys.specs.declared.entry.Entry.{Entry}
 use Rattle.reg_keys.specs.declared.entry.Entry.TheVariants.{Ask}
 use Rattle.reg_keys.specs.Tests.{same, same_key, how_many, one_if, IsIn}
-use Rattle.reg_keys.specs.Histories.{Registered, Unasked, unasked, Standing, StillWaits, HasRun, WasShut, is_fired, not_asked}
-use Rattle.reg_keys.specs.Replies.{is_flag, first_told, reply_of}
-use Rattle.reg_keys.proofs.TestLemmas.{same_self, same_is, in_filter, in_some, in_map, many_some}
+use Rattle.reg_keys.specs.Histories.{Unasked, unasked, Standing, StillWaits, HasRun, WasShut, is_fired, not_asked}
+use Rattle.reg_keys.specs.Replies.{first_told, reply_of}
+use Rattle.reg_keys.proofs.TestLemmas.{same_self, in_filter, in_some, in_map, many_some}
 use Rattle.stripe_table.specs.Ascending.{Ascends}
-use Rattle.stripe_table.specs.Facts.{Facts, facts_of, next, waits_at, fired_of, number_of, flag_number, told}
-use Rattle.stripe_table.specs.Stands.{opening, registered_of, FitsOpen, FitsShut, FitsAt, FitsTable, Shows, Fits, unasked_of, standing_of, IsOrdered, AreOrdered}
+use Rattle.stripe_table.specs.Facts.{Facts, next, fired_of, flag_number, told}
+use Rattle.stripe_table.specs.Stands.{opening, FitsOpen, FitsAt, FitsTable, Shows, Fits, unasked_of, standing_of, AreOrdered}
 use Rattle.stripe_table.specs.Flags.{flag_has}
-use Rattle.stripe_table.specs.Calls.{asked}
 use Rattle.stripe_table.specs.declared.descriptor.OpenDescriptor.{OpenDescriptor}
 use Rattle.stripe_table.specs.declared.flags.UnaskedFlag.{UnaskedFlag}
 use Rattle.stripe_table.specs.declared.stripe.Stripe.{Stripe}
-use Rattle.stripe_table.proofs.Lists.{filter_case, none_above, all_kept}
 use Rattle.stripe_table.proofs.Ordering.{above_in, one_number}
 use Rattle.stripe_table.proofs.Facts.{at_set}
 use Rattle.stripe_table.proofs.Naming.{same_parts}
 use Rattle.stripe_table.proofs.Settling.{waiter}
 use Rattle.stripe_table.proofs.Taking.{filter_map}
-use Rattle.stripe_table.proofs.Withdraws.{many_kept, fired_without, ordered_without, flags_without}
+use Rattle.stripe_table.proofs.Withdraws.{fired_without, ordered_without, flags_without}
 
 -- the flag that goes was one that fired
 one_less : (p : Opening) (key : Key) (u : Unasked) (us : List Unasked) → Ascends flag_number us → IsIn u us → u.key.number ≡ key.number → fired_of p u ≡ true → how_many (fired_of p) (not_asked key us) + 1 ≡ how_many (fired_of p) us

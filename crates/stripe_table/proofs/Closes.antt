@@ -1,22 +1,21 @@
 -- A close on the table is what the definitions say of it.
-use Rattle.std.proofs.Common.{◌≡◌, ℕ, ◌+◌, ◌*◌, ◌≤◌, ◌<◌, ◌≢◌, ◌⊎◌, inl, inr, ⊎_elim, List, [], ◌∷◌, ◌++◌, map, length, set, true, false, Bool, sym, refl, ap, ◌∙◌, subst, arith}
-use Rattle.std.specs.Prelude.{Option, Some, None, filter, if◌then◌else◌, not, ◌||◌, ◌&&◌, ◌==◌, slice_get}
+use Rattle.std.proofs.Common.{◌≡◌, ℕ, ◌+◌, ◌*◌, ◌≢◌, List, [], ◌∷◌, map, set, true, false, Bool, sym, refl, ap, ◌∙◌, subst}
+use Rattle.std.specs.Prelude.{Option, Some, None, filter, not, slice_get}
 use Rattle.std.specs.List.{list_any}
-use Rattle.std.proofs.lemmas.Bool.{both_ways, cond-true, cond-false, eqb-true, cond_both, false_from_ne_true}
+use Rattle.std.proofs.lemmas.Bool.{cond-true, cond-false, eqb-true, cond_both}
 use Rattle.std.proofs.lemmas.Option.{none-some}
 use Rattle.reg_keys.specs.declared.opening.Opening.{Opening}
 use Rattle.reg_keys.specs.declared.entry.ShutKey.{ShutKey}
 use Rattle.reg_keys.specs.declared.entry.CloseOutcome.TheVariants as Closes
 use Rattle.reg_keys.specs.declared.entry.Entry.{Entry}
 use Rattle.reg_keys.specs.declared.entry.Entry.TheVariants.{Close}
-use Rattle.reg_keys.specs.declared.registration.Dir.TheVariants.{Read, Write}
-use Rattle.reg_keys.specs.Tests.{same, has_dir, how_many, IsIn}
+use Rattle.reg_keys.specs.Tests.{same, how_many, IsIn}
 use Rattle.reg_keys.specs.Histories.{is_live, is_it, is_of, Registered, EventOut, Unasked, WasShut, without, keys_shut, flag_shut}
 use Rattle.reg_keys.specs.Replies.{is_flag, shut_as, reply_of}
 use Rattle.reg_keys.proofs.TestLemmas.{same_self, in_filter}
 use Rattle.stripe_table.specs.Calls.{kind_of, kind_of_job, shut_key}
 use Rattle.stripe_table.specs.Facts.{Facts, facts_of, next, waits_at, out_at, fired_of, flag_at, shut}
-use Rattle.stripe_table.specs.Stands.{opening, registered_of, outs_of, FitsOpen, FitsShut, FitsAt, Shows, unasked_of, IsOrdered, AreOrdered}
+use Rattle.stripe_table.specs.Stands.{registered_of, outs_of, FitsOpen, FitsShut, Shows, unasked_of, IsOrdered, AreOrdered}
 use Rattle.stripe_table.specs.Flags.{flag_has}
 use Rattle.stripe_table.specs.Loads as Loads
 use Rattle.stripe_table.specs.Firing as Firing

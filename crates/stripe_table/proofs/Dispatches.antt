@@ -1,11 +1,10 @@
 -- A dispatch on the table is what the definitions say of it.
-use Rattle.std.proofs.Common.{◌≡◌, ℕ, ◌+◌, ◌*◌, ◌≤◌, ◌<◌, ◌≢◌, ◌⊎◌, inl, inr, ⊎_elim, List, [], ◌∷◌, ◌++◌, map, length, set, true, false, Bool, sym, refl, ap, ◌∙◌, subst, arith}
+use Rattle.std.proofs.Common.{◌≡◌, ℕ, ◌+◌, ◌*◌, ◌≢◌, List, [], ◌∷◌, map, set, true, false, Bool, sym, refl, ap, ◌∙◌, subst, arith}
 use Rattle.std.specs.Prelude.{Option, Some, None, filter, if◌then◌else◌, not, ◌||◌, ◌&&◌, ◌==◌, slice_get, nat_lt}
 use Rattle.std.specs.List.{list_any}
-use Rattle.std.proofs.lemmas.Bool.{both_ways, or_parts, and_left, and_parts, cond-true, cond-false, eqb-true, eq-eqb, ne_eqb, cases_Bool, false_from_ne_true, not-true}
+use Rattle.std.proofs.lemmas.Bool.{both_ways, and_parts, eqb-true, eq-eqb, false_from_ne_true}
 use Rattle.reg_keys.specs.declared.opening.Opening.{Opening}
 use Rattle.reg_keys.specs.declared.event.EventName.{EventName}
-use Rattle.reg_keys.specs.declared.registration.Key.{Key}
 use Rattle.reg_keys.specs.declared.registration.Dir.{Dir}
 use Rattle.reg_keys.specs.declared.registration.Dir.TheVariants.{Read, Write}
 use Rattle.reg_keys.specs.declared.registration.Marks.{Marks}
@@ -13,21 +12,19 @@ use Rattle.reg_keys.specs.declared.entry.FiredKey.{FiredKey}
 use Rattle.reg_keys.specs.declared.entry.DispatchOutcome.TheVariants as Dispatches
 use Rattle.reg_keys.specs.declared.entry.Entry.{Entry}
 use Rattle.reg_keys.specs.declared.entry.Entry.TheVariants.{Dispatch}
-use Rattle.reg_keys.specs.Tests.{same, same_event, same_dir, has_dir, how_many, one_if, IsIn}
-use Rattle.reg_keys.specs.Histories.{is_live, marks_of, Registered, waiting, EventOut, Unasked, HasRun, without, keys_run, flag_run}
-use Rattle.reg_keys.specs.Replies.{is_spent, is_flag, dir_out, fires, fired_as, reply_of}
+use Rattle.reg_keys.specs.Tests.{same, same_event, has_dir, how_many, IsIn}
+use Rattle.reg_keys.specs.Histories.{is_live, Registered, EventOut, Unasked, HasRun, without, keys_run, flag_run}
+use Rattle.reg_keys.specs.Replies.{is_spent, is_flag, dir_out, fired_as, reply_of}
 use Rattle.reg_keys.proofs.TestLemmas.{same_self, in_filter}
-use Rattle.stripe_table.specs.Ascending.{Ascends}
 use Rattle.stripe_table.specs.Calls.{kind_of, kind_of_job, fired_key}
-use Rattle.stripe_table.specs.Facts.{Facts, facts_of, next, waits_at, out_at, fired_of, number_of, flag_at, event_of, with_event, run}
-use Rattle.stripe_table.specs.Stands.{opening, registered_of, outs_of, FitsOpen, FitsAt, Shows, unasked_of, standing_of, IsOrdered, AreOrdered}
-use Rattle.stripe_table.specs.Flags.{flag_has, key_of}
+use Rattle.stripe_table.specs.Facts.{Facts, facts_of, next, waits_at, out_at, fired_of, flag_at, event_of, with_event, run}
+use Rattle.stripe_table.specs.Stands.{registered_of, outs_of, FitsOpen, Shows, unasked_of, IsOrdered, AreOrdered}
+use Rattle.stripe_table.specs.Flags.{flag_has}
 use Rattle.stripe_table.specs.Loads as Loads
 use Rattle.stripe_table.specs.Firing as Firing
 use Rattle.stripe_table.specs.Descriptors as Kept
 use Rattle.stripe_table.specs.declared.load.Payload.{Payload}
 use Rattle.stripe_table.specs.declared.load.Payload.TheVariants.{Job, Flag}
-use Rattle.stripe_table.specs.declared.calls.Fired.{Fired}
 use Rattle.stripe_table.specs.declared.descriptor.OutSlot.{OutSlot}
 use Rattle.stripe_table.specs.declared.descriptor.Registration.{Registration}
 use Rattle.stripe_table.specs.declared.descriptor.OpenDescriptor.{OpenDescriptor}
@@ -37,7 +34,7 @@ use Rattle.stripe_table.proofs.Facts.{SameAt, fits_here, changed}
 use Rattle.stripe_table.proofs.Naming.{other_fd, same_parts, any_there}
 use Rattle.stripe_table.proofs.Steps.{picked, passed}
 use Rattle.stripe_table.proofs.Settling.{settle, run_is, settled_is, fired_own, fired_other, stood_taken, settled_ordered}
-use Rattle.stripe_table.proofs.Taking.{filter_swap, filter_agrees, filter_spared, filter_all, filter_none, split_room, many_mapped, left_is, any_flag, waits_in, taken_here, left_here}
+use Rattle.stripe_table.proofs.Taking.{filter_swap, filter_spared, filter_all, filter_none, split_room, many_mapped, left_is, any_flag, waits_in, taken_here, left_here}
 
 pub eq_turned : (a b : ℕ) → (a == b) ≡ (b == a)
 eq_turned a b = by_case (b == a) refl

@@ -1,16 +1,15 @@
 -- How facts change at one descriptor, and stay elsewhere.
-use Rattle.std.proofs.Common.{◌≡◌, ℕ, zero, suc, ◌+◌, ◌-◌, ◌*◌, ◌^◌, ◌≤◌, ◌<◌, ◌≢◌, ◌⊎◌, inl, inr, ⊎_elim, List, [], ◌∷◌, ◌++◌, map, length, set, true, false, Bool, sym, refl, ap, ◌∙◌, subst, arith, length-set}
-use Rattle.std.specs.Prelude.{Option, Some, None, filter, if◌then◌else◌, not, ◌||◌, ◌&&◌, ◌==◌, slice_get}
-use Rattle.std.specs.List.{list_any}
+use Rattle.std.proofs.Common.{◌≡◌, ℕ, zero, suc, ◌+◌, ◌*◌, ◌≤◌, ◌<◌, ◌≢◌, ◌⊎◌, inl, inr, ⊎_elim, List, [], ◌∷◌, map, set, sym, refl, ap, ◌∙◌, subst, arith, length-set}
+use Rattle.std.specs.Prelude.{Option, Some, None, filter, slice_get}
 use Rattle.std.proofs.lemmas.Option.{same_Some, none-some}
 use Rattle.reg_keys.specs.declared.opening.Opening.{Opening}
 use Rattle.reg_keys.specs.declared.registration.Dir.{Dir}
 use Rattle.reg_keys.specs.declared.registration.Dir.TheVariants.{Read, Write}
-use Rattle.reg_keys.specs.Tests.{same, how_many}
-use Rattle.reg_keys.specs.Histories.{Registered, EventOut, Unasked}
-use Rattle.stripe_table.specs.Ascending.{AllAbove, Ascends, AllBelow}
-use Rattle.stripe_table.specs.Facts.{Facts, next, waits_at, out_at, fired_of, number_of, flag_number}
-use Rattle.stripe_table.specs.Stands.{opening, unasked_of, outs_of, IsOrdered, AreOrdered, registered_of, FitsOpen, FitsShut, FitsAt, FitsTable, Shows}
+use Rattle.reg_keys.specs.Tests.{how_many}
+use Rattle.reg_keys.specs.Histories.{Registered, Unasked}
+use Rattle.stripe_table.specs.Ascending.{AllBelow}
+use Rattle.stripe_table.specs.Facts.{Facts, waits_at, out_at, fired_of, number_of, flag_number}
+use Rattle.stripe_table.specs.Stands.{opening, unasked_of, IsOrdered, AreOrdered, FitsOpen, FitsAt, FitsTable, Shows}
 use Rattle.stripe_table.specs.declared.descriptor.OpenDescriptor.{OpenDescriptor}
 use Rattle.stripe_table.specs.declared.flags.UnaskedFlag.{UnaskedFlag}
 use Rattle.stripe_table.specs.declared.stripe.Stripe.{Stripe}

@@ -1,11 +1,11 @@
 -- Lists, tests and places.
-use Rattle.std.proofs.Common.{◌≡◌, ℕ, zero, suc, ◌+◌, ◌-◌, ◌≤◌, ◌<◌, ◌≢◌, ◌⊎◌, inl, inr, ⊎_elim, List, [], ◌∷◌, ◌++◌, map, length, set, take, true, false, Bool, sym, refl, ap, ◌∙◌, subst, arith}
-use Rattle.std.specs.Prelude.{Option, Some, None, filter, if◌then◌else◌, not, ◌||◌, ◌&&◌, ◌==◌, slice_get, remove}
+use Rattle.std.proofs.Common.{◌≡◌, ℕ, zero, suc, ◌≤◌, ◌<◌, ◌≢◌, ◌⊎◌, inl, inr, ⊎_elim, List, [], ◌∷◌, map, length, set, take, true, false, Bool, sym, refl, ap, ◌∙◌, subst, arith}
+use Rattle.std.specs.Prelude.{Some, filter, not, ◌||◌, ◌==◌, slice_get, remove}
 use Rattle.std.specs.List.{list_any}
-use Rattle.std.proofs.lemmas.Bool.{both_ways, or_cases, or_left, or_right, or_parts, and_parts, and_from, and_left, and_right, eqb-true, eq-eqb, ne_eqb, not-true, not-false, false_from_ne_true, cond-true, cond-false, cond_both, cases_Bool}
+use Rattle.std.proofs.lemmas.Bool.{or_left, or_right, or_parts, eq-eqb, ne_eqb, cond-true, cond-false, cond_both}
 use Rattle.std.proofs.lemmas.Option.{same_Some, none-some}
 use Rattle.std.proofs.Math.Nat.{eq-or-lt_of_le}
-use Rattle.stripe_table.specs.Ascending.{AllAbove, Ascends, AllBelow}
+use Rattle.stripe_table.specs.Ascending.{AllAbove, Ascends}
 
 le_cases : (i j : ℕ) → i ≤ j → (i < j) ⊎ (i ≡ j)
 le_cases i j le = ⊎_elim inr inl (eq-or-lt_of_le {n = i} {m = j} le)

@@ -1,8 +1,8 @@
 -- The event that a descriptor names is the one that is to be named.
-use Rattle.std.proofs.Common.{◌≡◌, ℕ, zero, suc, ◌+◌, ◌-◌, ◌*◌, ◌^◌, ◌≤◌, ◌<◌, ◌≢◌, ◌⊎◌, inl, inr, ⊎_elim, List, [], ◌∷◌, ◌++◌, map, length, set, true, false, Bool, sym, refl, ap, ◌∙◌, subst, arith}
-use Rattle.std.specs.Prelude.{Option, Some, None, is_some, filter, if◌then◌else◌, not, ◌||◌, ◌&&◌, ◌==◌, slice_get}
+use Rattle.std.proofs.Common.{◌≡◌, ℕ, ◌+◌, ◌*◌, ◌≢◌, List, [], ◌∷◌, ◌++◌, map, set, true, false, Bool, sym, refl, ap, ◌∙◌, subst, arith}
+use Rattle.std.specs.Prelude.{Option, Some, None, is_some, filter, not, ◌||◌, ◌&&◌, ◌==◌, slice_get}
 use Rattle.std.specs.List.{list_any}
-use Rattle.std.proofs.lemmas.Bool.{both_ways, or_cases, or_left, and_parts, and_from, and_left, eqb-true, eq-eqb, ne_eqb, not-true, false_from_ne_true, cond-true, cond-false, cond_both}
+use Rattle.std.proofs.lemmas.Bool.{both_ways, or_left, and_parts, and_from, eqb-true, eq-eqb, ne_eqb, false_from_ne_true, cond-true, cond-false}
 use Rattle.std.proofs.lemmas.Option.{same_Some, none-some}
 use Rattle.std.proofs.lemmas.List.Elements.{filter-append}
 use Rattle.std.proofs.lemmas.List.{append-nil}
@@ -11,11 +11,11 @@ use Rattle.reg_keys.specs.declared.event.EventName.{EventName}
 use Rattle.reg_keys.specs.declared.registration.Dir.{Dir}
 use Rattle.reg_keys.specs.declared.registration.Dir.TheVariants.{Read, Write}
 use Rattle.reg_keys.specs.declared.registration.Dirs.{Dirs}
-use Rattle.reg_keys.specs.Tests.{same, same_dir, has_dir, how_many}
+use Rattle.reg_keys.specs.Tests.{same, same_dir, has_dir}
 use Rattle.reg_keys.specs.Histories.{Registered, EventOut, is_of}
 use Rattle.reg_keys.proofs.TestLemmas.{same_self}
 use Rattle.stripe_table.specs.Facts.{Facts, next, waits_at, out_at, is_due, has_due, due_in, has_out, event_of, with_event}
-use Rattle.stripe_table.specs.Stands.{opening, unasked_of, outs_of, AreOrdered, registered_of, FitsOpen, FitsAt, Shows}
+use Rattle.stripe_table.specs.Stands.{unasked_of, outs_of, registered_of, FitsOpen, FitsAt, Shows}
 use Rattle.stripe_table.specs.Descriptors.{goes, due_to_read, due_to_write, dirs_of, dirs_to_name, unless_out, with_out, named}
 use Rattle.stripe_table.specs.declared.descriptor.OutSlot.{OutSlot}
 use Rattle.stripe_table.specs.declared.descriptor.Registration.{Registration}

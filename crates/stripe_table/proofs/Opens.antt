@@ -1,7 +1,7 @@
 -- An opening made in the table is what the definitions say of it.
-use Rattle.std.proofs.Common.{◌≡◌, ℕ, ◌+◌, ◌*◌, ◌/◌, ◌%◌, ◌≤◌, ◌<◌, ◌≢◌, ◌⊎◌, inl, inr, ⊎_elim, List, [], ◌∷◌, ◌++◌, map, set, true, false, Bool, sym, refl, ap, ◌∙◌, subst, arith}
-use Rattle.std.specs.Prelude.{Option, Some, None, if◌then◌else◌, not, ◌||◌, ◌&&◌, ◌==◌, slice_get}
-use Rattle.std.proofs.lemmas.Bool.{both_ways, and_left, cond-true, cond-false, eq-eqb, eqb-true, ne_eqb, cases_Bool, cond_both}
+use Rattle.std.proofs.Common.{◌≡◌, ℕ, ◌+◌, ◌*◌, ◌%◌, ◌<◌, ◌≢◌, inl, inr, List, [], ◌∷◌, map, set, true, false, sym, refl, ap, ◌∙◌, subst, arith}
+use Rattle.std.specs.Prelude.{Some, None, if◌then◌else◌, ◌||◌, ◌==◌, slice_get}
+use Rattle.std.proofs.lemmas.Bool.{and_left, cond-true, cond-false, eq-eqb, eqb-true, ne_eqb, cond_both}
 use Rattle.std.proofs.lemmas.Option.{same_Some, none-some}
 use Rattle.reg_keys.specs.declared.opening.Opening.{Opening}
 use Rattle.reg_keys.specs.declared.registration.Dir.TheVariants.{Read, Write}
@@ -10,10 +10,10 @@ use Rattle.reg_keys.specs.declared.entry.Entry.{Entry}
 use Rattle.reg_keys.specs.declared.entry.Entry.TheVariants.{Open}
 use Rattle.reg_keys.specs.Tests.{same, how_many, IsIn, one_if}
 use Rattle.reg_keys.specs.Histories.{owner_of, next_number, Unasked, is_fired}
-use Rattle.reg_keys.specs.Replies.{is_spent, opened_unless, open_reply, reply_of}
+use Rattle.reg_keys.specs.Replies.{is_spent, opened_unless, reply_of}
 use Rattle.reg_keys.proofs.TestLemmas.{same_self}
-use Rattle.stripe_table.specs.Facts.{Facts, facts_of, next, fired_of, number_of, flag_number, made}
-use Rattle.stripe_table.specs.Stands.{opening, FitsOpen, FitsShut, FitsAt, Shows, unasked_of, IsOrdered, AreOrdered}
+use Rattle.stripe_table.specs.Facts.{Facts, next, fired_of, made}
+use Rattle.stripe_table.specs.Stands.{opening, FitsOpen, FitsShut, Shows, unasked_of, AreOrdered}
 use Rattle.stripe_table.specs.Descriptors as Kept
 use Rattle.stripe_table.specs.declared.descriptor.OpenDescriptor.{OpenDescriptor}
 use Rattle.stripe_table.specs.declared.stripe.Stripe.{Stripe}

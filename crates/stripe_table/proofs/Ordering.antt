@@ -1,9 +1,9 @@
 -- Lists of keys that grow at their end, and lists that lose some.
-use Rattle.std.proofs.Common.{◌≡◌, ℕ, ◌+◌, ◌≤◌, ◌<◌, ◌≢◌, ◌⊎◌, inl, inr, ⊎_elim, List, [], ◌∷◌, ◌++◌, map, length, true, false, Bool, sym, refl, ap, ◌∙◌, subst, arith, length-append}
-use Rattle.std.specs.Prelude.{Option, Some, None, filter, if◌then◌else◌, not, ◌||◌, ◌&&◌, ◌==◌}
+use Rattle.std.proofs.Common.{◌≡◌, ℕ, ◌<◌, ⊎_elim, List, [], ◌∷◌, ◌++◌, map, false, Bool, sym, refl, ap, ◌∙◌, subst, arith}
+use Rattle.std.specs.Prelude.{filter, ◌||◌, ◌==◌}
 use Rattle.std.specs.List.{list_any}
-use Rattle.std.proofs.lemmas.Bool.{both_ways, or_parts, cond-true, cond-false, eqb-true, eq-eqb, ne_eqb, cases_Bool, false_from_ne_true}
-use Rattle.reg_keys.specs.Tests.{how_many, one_if, IsIn}
+use Rattle.std.proofs.lemmas.Bool.{or_parts, cond-true, cond-false, eq-eqb, ne_eqb}
+use Rattle.reg_keys.specs.Tests.{IsIn}
 use Rattle.stripe_table.specs.Ascending.{AllAbove, Ascends, AllBelow}
 use Rattle.stripe_table.proofs.Lists.{filter_case, none_above}
 

@@ -1,6 +1,6 @@
 -- The stripe as a part: what its calls add to what it stands for.
-use Rattle.std.proofs.Common.{◌≡◌, ℕ, ◌+◌, ◌*◌, ◌%◌, ◌≤◌, ◌<◌, List, [], ◌∷◌, ◌++◌, map, length, true, false, Bool, sym, refl, ap, ◌∙◌, subst, arith}
-use Rattle.std.specs.Prelude.{Option, Some, None, is_some, if◌then◌else◌, ◌&&◌, ◌==◌, slice_get}
+use Rattle.std.proofs.Common.{◌≡◌, ℕ, ◌+◌, ◌*◌, ◌<◌, List, [], ◌∷◌, ◌++◌, map, length, true, false, sym, refl, ap, ◌∙◌, subst, arith}
+use Rattle.std.specs.Prelude.{Option, Some, None, is_some, ◌==◌, slice_get}
 use Rattle.std.specs.List.{list_any}
 use Rattle.std.proofs.lemmas.Bool.{both_ways, and_from, cond-true, eq-eqb}
 use Rattle.std.proofs.lemmas.List.{map-append}
@@ -16,12 +16,12 @@ use Rattle.reg_keys.specs.declared.entry.Entry.{Entry}
 use Rattle.reg_keys.specs.declared.entry.Entry.TheVariants.{Register, Dispatch}
 use Rattle.reg_keys.specs.Tests.{same_event}
 use Rattle.reg_keys.specs.Histories.{past_of}
-use Rattle.reg_keys.specs.Replies.{IsLegal, reply_of}
+use Rattle.reg_keys.specs.Replies.{IsLegal}
 use Rattle.reg_keys.proofs.TestLemmas.{same_self}
 use Rattle.reg_keys.proofs.Pasts.{past_of-more}
 use Rattle.stripe_table.specs.Calls.{kind_of, registered, dispatched, HandsBack, HandsEventBack, same_numbers, same_tag, same_kind, handed_back, no_entry, register_entry, dispatch_entry}
 use Rattle.stripe_table.specs.Facts.{facts_of}
-use Rattle.stripe_table.specs.Stands.{FitsAt, Shows, Step, Stands}
+use Rattle.stripe_table.specs.Stands.{FitsAt, Step, Stands}
 use Rattle.stripe_table.specs.declared.load.Payload.{Payload}
 use Rattle.stripe_table.specs.declared.calls.RegisterReply.{RegisterReply}
 use Rattle.stripe_table.specs.declared.calls.RegisterReply.TheVariants as RegisterAnswer

@@ -1,11 +1,10 @@
 -- A registration in the table is what the definitions say of it.
-use Rattle.std.proofs.Common.{◌≡◌, ℕ, ◌+◌, ◌*◌, ◌≤◌, ◌<◌, ◌≢◌, ◌⊎◌, inl, inr, ⊎_elim, List, [], ◌∷◌, ◌++◌, map, length, set, true, false, Bool, sym, refl, ap, ◌∙◌, subst, arith, length-append, ◌%◌}
-use Rattle.std.specs.Prelude.{Option, Some, None, filter, if◌then◌else◌, not, ◌||◌, ◌&&◌, ◌==◌, slice_get, nat_le}
+use Rattle.std.proofs.Common.{◌≡◌, ℕ, ◌+◌, ◌*◌, ◌≤◌, ◌<◌, ◌≢◌, inl, inr, ⊎_elim, List, [], ◌∷◌, ◌++◌, map, length, set, true, false, Bool, sym, refl, ap, ◌∙◌, subst, arith, length-append, ◌%◌}
+use Rattle.std.specs.Prelude.{Option, Some, None, filter, not, ◌||◌, ◌&&◌, ◌==◌, slice_get, nat_le}
 use Rattle.std.specs.List.{list_any}
-use Rattle.std.proofs.lemmas.Bool.{both_ways, and_left, cond-true, cond-false, eq-eqb, ne_eqb, leb-false, le-leb, or_parts, and_parts, false_from_ne_true}
+use Rattle.std.proofs.lemmas.Bool.{both_ways, cond-true, cond-false, eq-eqb, ne_eqb, leb-false, or_parts, false_from_ne_true}
 use Rattle.std.proofs.lemmas.List.{append-nil, length-map, map-append}
 use Rattle.std.proofs.lemmas.List.Elements.{filter-append}
-use Rattle.std.proofs.lemmas.Option.{same_Some, none-some}
 use Rattle.reg_keys.specs.declared.opening.Opening.{Opening}
 use Rattle.reg_keys.specs.declared.event.EventName.{EventName}
 use Rattle.reg_keys.specs.declared.registration.Key.{Key}
@@ -17,26 +16,24 @@ use Rattle.reg_keys.specs.declared.entry.RegisterOutcome.TheVariants as Register
 use Rattle.reg_keys.specs.declared.entry.Entry.{Entry}
 use Rattle.reg_keys.specs.declared.entry.Entry.TheVariants.{Register}
 use Rattle.reg_keys.specs.Tests.{same, same_dir, how_many, one_if, IsIn}
-use Rattle.reg_keys.specs.Histories.{next_number, is_live, names_mark, Registered, waiting, Unasked, unasked, StillWaits, is_fired, flag_made}
-use Rattle.reg_keys.specs.Replies.{is_spent, is_flag, is_crowded, places_taken, event_named, reply_of}
+use Rattle.reg_keys.specs.Histories.{next_number, is_live, names_mark, Registered, waiting, Unasked, unasked, StillWaits, flag_made}
+use Rattle.reg_keys.specs.Replies.{is_spent, is_flag, is_crowded, places_taken, reply_of}
 use Rattle.reg_keys.proofs.TestLemmas.{same_self, many_append, in_append, in_one}
-use Rattle.stripe_table.specs.Ascending.{AllAbove, Ascends, AllBelow}
 use Rattle.stripe_table.specs.Calls.{kind_of}
 use Rattle.stripe_table.specs.Facts.{Facts, facts_of, next, waits_at, fired_of, number_of, flag_number, flag_at, event_of, with_event, registered}
-use Rattle.stripe_table.specs.Stands.{opening, registered_of, FitsOpen, FitsAt, Shows, unasked_of, IsOrdered, AreOrdered}
+use Rattle.stripe_table.specs.Stands.{registered_of, FitsOpen, Shows, unasked_of, IsOrdered, AreOrdered}
 use Rattle.stripe_table.specs.Flags.{begun}
 use Rattle.stripe_table.specs.Loads as Loads
 use Rattle.stripe_table.specs.Descriptors as Kept
 use Rattle.stripe_table.specs.declared.load.Payload.{Payload}
 use Rattle.stripe_table.specs.declared.load.Payload.TheVariants.{Job, Flag}
-use Rattle.stripe_table.specs.declared.descriptor.Side.{Side}
 use Rattle.stripe_table.specs.declared.descriptor.Registration.{Registration}
 use Rattle.stripe_table.specs.declared.descriptor.OpenDescriptor.{OpenDescriptor}
 use Rattle.stripe_table.specs.declared.flags.UnaskedFlag.{UnaskedFlag}
 use Rattle.stripe_table.specs.declared.stripe.Stripe.{Stripe}
 use Rattle.stripe_table.proofs.Lists.{filter_case}
 use Rattle.stripe_table.proofs.Facts.{SameAt, ordered_more, fits_here, changed}
-use Rattle.stripe_table.proofs.Naming.{other_fd, same_parts, at_own}
+use Rattle.stripe_table.proofs.Naming.{other_fd, same_parts}
 use Rattle.stripe_table.proofs.Steps.{picked, passed}
 use Rattle.stripe_table.proofs.Ordering.{ascends_last, below_last, below_in, none_new}
 

@@ -1,22 +1,20 @@
 -- A report on the table is what the definitions say of it.
-use Rattle.std.proofs.Common.{◌≡◌, ℕ, ◌+◌, ◌*◌, ◌≤◌, ◌<◌, ◌≢◌, List, [], ◌∷◌, ◌++◌, map, set, true, false, Bool, sym, refl, ap, ◌∙◌, subst, arith}
+use Rattle.std.proofs.Common.{◌≡◌, ℕ, ◌+◌, ◌*◌, ◌≢◌, List, ◌∷◌, map, set, true, false, Bool, sym, refl, ap, ◌∙◌, arith}
 use Rattle.std.specs.Prelude.{Option, Some, None, if◌then◌else◌, not, ◌||◌, ◌&&◌, slice_get}
 use Rattle.std.proofs.lemmas.Bool.{both_ways, and_left, cond-false}
-use Rattle.std.proofs.lemmas.List.{append-nil}
 use Rattle.reg_keys.specs.declared.opening.Opening.{Opening}
 use Rattle.reg_keys.specs.declared.event.EventName.{EventName}
-use Rattle.reg_keys.specs.declared.registration.Dir.{Dir}
 use Rattle.reg_keys.specs.declared.registration.Dir.TheVariants.{Read, Write}
 use Rattle.reg_keys.specs.declared.registration.Dirs.{Dirs}
 use Rattle.reg_keys.specs.declared.entry.ReportOutcome.TheVariants as Reports
 use Rattle.reg_keys.specs.declared.entry.Entry.{Entry}
 use Rattle.reg_keys.specs.declared.entry.Entry.TheVariants.{Report}
 use Rattle.reg_keys.specs.Tests.{same, has_dir}
-use Rattle.reg_keys.specs.Histories.{count_after, is_live, events_out}
-use Rattle.reg_keys.specs.Replies.{is_spent, event_named, report_reply, reply_of}
+use Rattle.reg_keys.specs.Histories.{is_live}
+use Rattle.reg_keys.specs.Replies.{is_spent, event_named, reply_of}
 use Rattle.reg_keys.proofs.TestLemmas.{same_self}
 use Rattle.stripe_table.specs.Facts.{Facts, facts_of, next, event_of, with_event, noted}
-use Rattle.stripe_table.specs.Stands.{FitsOpen, FitsAt, Shows, unasked_of, AreOrdered}
+use Rattle.stripe_table.specs.Stands.{FitsOpen, Shows, unasked_of}
 use Rattle.stripe_table.specs.Descriptors as Kept
 use Rattle.stripe_table.specs.declared.descriptor.Side.{Side}
 use Rattle.stripe_table.specs.declared.descriptor.OpenDescriptor.{OpenDescriptor}

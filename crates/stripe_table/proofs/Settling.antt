@@ -1,32 +1,26 @@
 -- How flags come out, one registration after the other.
-use Rattle.std.proofs.Common.{◌≡◌, ℕ, ◌+◌, ◌*◌, ◌%◌, ◌≤◌, ◌<◌, ◌≢◌, ◌⊎◌, inl, inr, ⊎_elim, List, [], ◌∷◌, ◌++◌, map, length, true, false, Bool, sym, refl, ap, ◌∙◌, subst, arith}
-use Rattle.std.specs.Prelude.{Option, Some, None, filter, if◌then◌else◌, not, ◌||◌, ◌&&◌, ◌==◌}
+use Rattle.std.proofs.Common.{◌≡◌, ℕ, ◌+◌, ◌%◌, ◌<◌, inl, inr, ⊎_elim, List, [], ◌∷◌, map, length, true, false, Bool, sym, refl, ap, ◌∙◌, subst, arith}
+use Rattle.std.specs.Prelude.{Option, Some, filter, if◌then◌else◌, not, ◌||◌, ◌&&◌, ◌==◌}
 use Rattle.std.specs.List.{list_any}
-use Rattle.std.proofs.lemmas.Bool.{both_ways, or_parts, and_left, and_parts, cond-true, cond-false, eqb-true, eq-eqb, ne_eqb, cases_Bool, false_from_ne_true, not-true}
+use Rattle.std.proofs.lemmas.Bool.{both_ways, and_left, cond-true, cond-false, eqb-true, eq-eqb, ne_eqb, false_from_ne_true, not-true}
 use Rattle.std.proofs.lemmas.List.{length-map}
 use Rattle.reg_keys.specs.declared.opening.Opening.{Opening}
 use Rattle.reg_keys.specs.declared.registration.Key.{Key}
 use Rattle.reg_keys.specs.declared.registration.Marks.{Marks}
-use Rattle.reg_keys.specs.declared.entry.FiredKey.{FiredKey}
-use Rattle.reg_keys.specs.declared.entry.ShutKey.{ShutKey}
 use Rattle.reg_keys.specs.Tests.{same, same_key, how_many, one_if, IsIn}
 use Rattle.reg_keys.specs.Histories.{Registered, Unasked, Standing, StillWaits, HasRun, WasShut, is_fired, standing_run, flag_run, flag_shut, keys_shut}
 use Rattle.reg_keys.specs.Replies.{is_flag, fired_as, shut_as}
-use Rattle.reg_keys.proofs.TestLemmas.{same_self, map_in, in_map, in_filter, some_in, in_some}
+use Rattle.reg_keys.proofs.TestLemmas.{map_in, in_map, in_filter, in_some}
 use Rattle.stripe_table.specs.Ascending.{AllAbove, Ascends, AllBelow}
-use Rattle.stripe_table.specs.Calls.{kind_of}
 use Rattle.stripe_table.specs.Facts.{fired_of, number_of, flag_number, flag_at}
 use Rattle.stripe_table.specs.Stands.{registered_of, unasked_of, standing_of, IsOrdered}
 use Rattle.stripe_table.specs.Flags.{flag_has, settled}
-use Rattle.stripe_table.specs.Loads as Loads
 use Rattle.stripe_table.specs.Firing.{settle_all, told_of}
 use Rattle.stripe_table.specs.Descriptors.{flag_waits}
-use Rattle.stripe_table.specs.declared.load.Payload.TheVariants.{Job, Flag}
-use Rattle.stripe_table.specs.declared.load.Payload.{Payload}
 use Rattle.stripe_table.specs.declared.descriptor.Registration.{Registration}
 use Rattle.stripe_table.specs.declared.flags.FlagState.{FlagState}
 use Rattle.stripe_table.specs.declared.flags.UnaskedFlag.{UnaskedFlag}
-use Rattle.stripe_table.proofs.Lists.{none_above, none_changed, above_changed, ascends_changed}
+use Rattle.stripe_table.proofs.Lists.{none_above, none_changed, ascends_changed}
 use Rattle.stripe_table.proofs.Ordering.{above_in, below_changed, one_number, ascends_left, below_left}
 
 -- the flag with this key comes out so

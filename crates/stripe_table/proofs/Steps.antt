@@ -1,7 +1,7 @@
 -- What a call of a stripe leads to.
-use Rattle.std.proofs.Common.{◌≡◌, ℕ, zero, suc, ◌+◌, ◌-◌, ◌*◌, ◌/◌, ◌%◌, ◌^◌, ◌≤◌, ◌<◌, ◌≢◌, ◌⊎◌, inl, inr, ⊎_elim, List, [], ◌∷◌, ◌++◌, map, length, set, true, false, Bool, sym, refl, ap, ◌∙◌, subst, get_or, arith}
-use Rattle.std.specs.Prelude.{Option, Some, None, filter, if◌then◌else◌, not, ◌||◌, ◌&&◌, ◌==◌, slice_get, nat_le}
-use Rattle.std.proofs.lemmas.Bool.{both_ways, false_from_ne_true, cond-true, cond-false, le-leb, lt-leb, eq-eqb, and_from}
+use Rattle.std.proofs.Common.{◌≡◌, ℕ, zero, suc, ◌+◌, ◌*◌, ◌/◌, ◌%◌, ◌≤◌, ◌<◌, ◌≢◌, List, [], ◌∷◌, length, set, true, false, Bool, sym, refl, ap, ◌∙◌, subst, get_or, arith}
+use Rattle.std.specs.Prelude.{Option, Some, None, if◌then◌else◌, slice_get}
+use Rattle.std.proofs.lemmas.Bool.{both_ways, false_from_ne_true, cond-true, cond-false, le-leb, lt-leb}
 use Rattle.std.proofs.lemmas.Option.{same_Some, none-some, slice_get_within, slice_get_read}
 use Rattle.reg_keys.specs.declared.limits.TheConstants.{LAST_COUNT}
 use Rattle.reg_keys.specs.declared.opening.Opening.{Opening}
@@ -11,7 +11,7 @@ use Rattle.reg_keys.specs.Histories.{count_after, owner_of, is_it, is_live}
 use Rattle.reg_keys.specs.Replies.{is_spent, reply_of}
 use Rattle.reg_keys.proofs.TestLemmas.{same_self, same_is}
 use Rattle.stripe_table.specs.Facts.{Facts, facts_of}
-use Rattle.stripe_table.specs.Stands.{opening, FitsOpen, FitsAt, Shows, Fits, Step}
+use Rattle.stripe_table.specs.Stands.{opening, FitsOpen, Shows, Fits, Step}
 use Rattle.stripe_table.specs.declared.descriptor.OpenDescriptor.{OpenDescriptor}
 use Rattle.stripe_table.specs.declared.stripe.Stripe.{Stripe}
 

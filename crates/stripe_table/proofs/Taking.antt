@@ -1,23 +1,23 @@
 -- Registrations and events that a call takes out of the lists.
-use Rattle.std.proofs.Common.{◌≡◌, ℕ, ◌+◌, ◌*◌, ◌≤◌, ◌<◌, ◌≢◌, ◌⊎◌, inl, inr, ⊎_elim, List, [], ◌∷◌, ◌++◌, map, length, true, false, Bool, sym, refl, ap, ◌∙◌, subst, arith}
-use Rattle.std.specs.Prelude.{Option, Some, None, filter, if◌then◌else◌, not, ◌||◌, ◌&&◌, ◌==◌}
+use Rattle.std.proofs.Common.{◌≡◌, ℕ, ◌+◌, ◌≤◌, List, [], ◌∷◌, map, length, true, false, Bool, sym, refl, ap, ◌∙◌, subst, arith}
+use Rattle.std.specs.Prelude.{filter, if◌then◌else◌, not, ◌||◌, ◌==◌}
 use Rattle.std.specs.List.{list_any}
-use Rattle.std.proofs.lemmas.Bool.{both_ways, or_parts, and_left, and_parts, cond-true, cond-false, eqb-true, eq-eqb, ne_eqb, cases_Bool, false_from_ne_true, not-true, not_from_false}
+use Rattle.std.proofs.lemmas.Bool.{both_ways, cond-true, cond-false, eqb-true, eq-eqb, ne_eqb, false_from_ne_true}
 use Rattle.reg_keys.specs.declared.opening.Opening.{Opening}
 use Rattle.reg_keys.specs.declared.registration.Key.{Key}
-use Rattle.reg_keys.specs.Tests.{same, same_key, how_many, one_if, IsIn}
-use Rattle.reg_keys.specs.Histories.{Registered, Unasked, without}
-use Rattle.reg_keys.proofs.TestLemmas.{in_map, in_kept, in_filter}
+use Rattle.reg_keys.specs.Tests.{same, how_many, one_if, IsIn}
+use Rattle.reg_keys.specs.Histories.{Registered, without}
+use Rattle.reg_keys.proofs.TestLemmas.{in_map, in_filter}
 use Rattle.reg_keys.proofs.EndsOnce.{at_key}
 use Rattle.reg_keys.proofs.Removal.{left_by_test}
-use Rattle.stripe_table.specs.Ascending.{AllAbove, Ascends, AllBelow}
+use Rattle.stripe_table.specs.Ascending.{AllAbove, Ascends}
 use Rattle.stripe_table.specs.Facts.{Facts, waits_at, number_of, flag_number, flag_at}
 use Rattle.stripe_table.specs.Stands.{registered_of, unasked_of, FitsOpen}
 use Rattle.stripe_table.specs.Flags.{flag_has, key_of}
 use Rattle.stripe_table.specs.declared.descriptor.Registration.{Registration}
 use Rattle.stripe_table.specs.declared.descriptor.OpenDescriptor.{OpenDescriptor}
 use Rattle.stripe_table.specs.declared.flags.UnaskedFlag.{UnaskedFlag}
-use Rattle.stripe_table.proofs.Lists.{filter_case, none_above}
+use Rattle.stripe_table.proofs.Lists.{filter_case}
 use Rattle.stripe_table.proofs.Naming.{same_parts}
 
 module _ {A : Type 0} where

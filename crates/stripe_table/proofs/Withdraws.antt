@@ -1,23 +1,21 @@
 -- A withdrawal from the table is what the definitions say of it.
-use Rattle.std.proofs.Common.{◌≡◌, ℕ, zero, suc, ◌+◌, ◌*◌, ◌/◌, ◌%◌, ◌≤◌, ◌<◌, ◌≢◌, ◌⊎◌, inl, inr, ⊎_elim, List, [], ◌∷◌, ◌++◌, map, length, set, true, false, Bool, sym, refl, ap, ◌∙◌, subst, arith}
+use Rattle.std.proofs.Common.{◌≡◌, ℕ, ◌+◌, ◌*◌, ◌/◌, ◌≤◌, ◌≢◌, inl, inr, List, [], ◌∷◌, map, length, set, true, false, Bool, sym, refl, ap, ◌∙◌, subst, arith}
 use Rattle.std.specs.Prelude.{Option, Some, None, filter, if◌then◌else◌, not, ◌||◌, ◌&&◌, ◌==◌, slice_get}
 use Rattle.std.specs.List.{list_any}
-use Rattle.std.proofs.lemmas.Bool.{both_ways, or_parts, cond-true, cond-false, eqb-true, eq-eqb, ne_eqb, cases_Bool, false_from_ne_true, not-true, not_from_false}
-use Rattle.std.proofs.lemmas.Option.{same_Some, none-some, slice_get_within}
+use Rattle.std.proofs.lemmas.Bool.{both_ways, or_parts, cond-false, eqb-true, eq-eqb, ne_eqb, false_from_ne_true, not-true, not_from_false}
+use Rattle.std.proofs.lemmas.Option.{none-some}
 use Rattle.reg_keys.specs.declared.opening.Opening.{Opening}
 use Rattle.reg_keys.specs.declared.registration.Key.{Key}
-use Rattle.reg_keys.specs.declared.entry.LoadKind.{LoadKind}
-use Rattle.reg_keys.specs.declared.entry.LoadKind.TheVariants as Kinds
 use Rattle.reg_keys.specs.declared.entry.WithdrawOutcome.TheVariants as Withdraws
 use Rattle.reg_keys.specs.declared.entry.Entry.{Entry}
 use Rattle.reg_keys.specs.declared.entry.Entry.TheVariants.{Withdraw}
 use Rattle.reg_keys.specs.Tests.{same, same_key, how_many, one_if, IsIn}
-use Rattle.reg_keys.specs.Histories.{owner_of, Registered, waiting, Unasked, StillWaits, is_fired, without, flag_back, not_asked}
+use Rattle.reg_keys.specs.Histories.{owner_of, Registered, waiting, Unasked, without, flag_back, not_asked}
 use Rattle.reg_keys.specs.Replies.{is_flag, first_back, reply_of}
-use Rattle.reg_keys.proofs.TestLemmas.{in_filter, in_kept, in_some, some_in, in_map, map_in}
+use Rattle.reg_keys.proofs.TestLemmas.{in_filter, in_kept, in_some, some_in, map_in}
 use Rattle.stripe_table.specs.Calls.{kind_of, kind_of_job}
 use Rattle.stripe_table.specs.Facts.{Facts, facts_of, next, waits_at, fired_of, number_of, flag_number, flag_at, withdrawn}
-use Rattle.stripe_table.specs.Stands.{opening, registered_of, FitsOpen, FitsShut, FitsAt, Shows, Fits, unasked_of, IsOrdered, AreOrdered}
+use Rattle.stripe_table.specs.Stands.{opening, registered_of, FitsOpen, Shows, Fits, unasked_of, IsOrdered, AreOrdered}
 use Rattle.stripe_table.specs.Flags.{flag_has, ended}
 use Rattle.stripe_table.specs.Loads as Loads
 use Rattle.stripe_table.specs.Descriptors as Kept
@@ -27,9 +25,9 @@ use Rattle.stripe_table.specs.declared.descriptor.Registration.{Registration}
 use Rattle.stripe_table.specs.declared.descriptor.OpenDescriptor.{OpenDescriptor}
 use Rattle.stripe_table.specs.declared.flags.UnaskedFlag.{UnaskedFlag}
 use Rattle.stripe_table.specs.declared.stripe.Stripe.{Stripe}
-use Rattle.stripe_table.proofs.Lists.{filter_case, none_at, none_passes}
+use Rattle.stripe_table.proofs.Lists.{filter_case, none_passes}
 use Rattle.stripe_table.proofs.Ordering.{in_one, one_number, ascends_left, below_left}
-use Rattle.stripe_table.proofs.Facts.{SameAt, fits_here, changed}
+use Rattle.stripe_table.proofs.Facts.{SameAt, changed}
 use Rattle.stripe_table.proofs.Steps.{within}
 use Rattle.stripe_table.proofs.Settling.{waiter}
 use Rattle.stripe_table.proofs.Taking.{filter_agrees, filter_map, split_room, waits_in, left_here}

@@ -5,7 +5,6 @@ use Rattle.reg_keys.specs.declared.opening.Opening.{Opening}
 use Rattle.reg_keys.specs.declared.event.EventName.{EventName}
 use Rattle.reg_keys.specs.declared.registration.Key.{Key}
 use Rattle.reg_keys.specs.declared.registration.Dir.{Dir}
-use Rattle.reg_keys.specs.declared.registration.Dirs.{Dirs}
 use Rattle.reg_keys.specs.declared.entry.LoadKind.{LoadKind}
 use Rattle.reg_keys.specs.declared.entry.LoadKind.TheVariants as Kinds
 use Rattle.reg_keys.specs.declared.entry.FiredKey.{FiredKey}
@@ -48,16 +47,19 @@ use Rattle.stripe_table.specs.declared.calls.DispatchReply.TheVariants as Dispat
 use Rattle.stripe_table.specs.declared.calls.CloseReply.{CloseReply}
 use Rattle.stripe_table.specs.declared.calls.CloseReply.TheVariants as CloseAnswer
 
+-- how an open came out, by its reply
 abbrev pub opened : OpenReply → OpenOutcome
 opened (OpenAnswer.Taken o) = Opens.Taken o
 opened OpenAnswer.Spent = Opens.Spent
 opened (OpenAnswer.Opened o) = Opens.Opened o
 
+-- how a report came out, by its reply
 abbrev pub reported : ReportReply → ReportOutcome
 reported ReportAnswer.Stale = Reports.Stale
 reported ReportAnswer.Spent = Reports.Spent
 reported (ReportAnswer.Noted e) = Reports.Noted e
 
+-- what a flag's owner was told, by the reply
 abbrev pub asked : AskReply → AskOutcome
 asked AskAnswer.Unknown = Asks.Unknown
 asked AskAnswer.Waiting = Asks.Waiting
@@ -70,30 +72,37 @@ module _ {T : Type 0} (tag : T → List (List ℕ)) where
   kind_of (Job x) = Kinds.Job (tag x)
   kind_of Flag = Kinds.Flag
 
+  -- the same of a job that is handed out, or of nothing for a flag
   abbrev pub kind_of_job : Option T → LoadKind
   kind_of_job (Some x) = Kinds.Job (tag x)
   kind_of_job None = Kinds.Flag
 
+  -- a registration that ran, as an entry has it
   abbrev pub fired_key : Fired T → FiredKey
   fired_key r = record { key = r.key; dir = r.dir; marks = r.marks; kind = kind_of_job r.job }
 
+  -- a registration that a close gave back, as an entry has it
   abbrev pub shut_key : Key × Option T → ShutKey
   shut_key x = record { key = x.0; kind = kind_of_job x.1 }
 
+  -- how a withdrawal came out, by its reply
   abbrev pub withdrawn : WithdrawReply T → WithdrawOutcome
   withdrawn WithdrawAnswer.Gone = Withdraws.Gone
   withdrawn (WithdrawAnswer.Back job) = Withdraws.Back (kind_of_job job)
 
+  -- how a dispatch came out, by its reply
   abbrev pub dispatched : DispatchReply T → DispatchOutcome
   dispatched DispatchAnswer.Stale = Dispatches.Stale
   dispatched (DispatchAnswer.Spent e) = Dispatches.Spent
   dispatched (DispatchAnswer.Ran list e) = Dispatches.Ran (map fired_key list) e
 
+  -- how a close came out, by its reply
   abbrev pub closed : CloseReply T → CloseOutcome
   closed CloseAnswer.NotOpen = Closes.NotOpen
   closed (CloseAnswer.Shut list) = Closes.Shut (map shut_key list)
 
 module _ {T : Type 0} where
+  -- how a registration came out, by its reply
   abbrev pub registered : RegisterReply T → RegisterOutcome
   registered (RegisterAnswer.Shut load) = Registers.Shut
   registered (RegisterAnswer.Crowded load) = Registers.Crowded
@@ -117,16 +126,19 @@ module _ {T : Type 0} where
 abbrev pub no_entry : Entry
 no_entry = Open 0 (Opens.Opened (record { number = 0; fd = 1 }))
 
+-- the same list of numbers
 abbrev pub same_numbers : List ℕ → List ℕ → Bool
 same_numbers [] [] = true
 same_numbers (m ∷ ms) (n ∷ ns) = (m == n) && same_numbers ms ns
 same_numbers _ _ = false
 
+-- the same tag
 abbrev pub same_tag : List (List ℕ) → List (List ℕ) → Bool
 same_tag [] [] = true
 same_tag (m ∷ ms) (n ∷ ns) = same_numbers m n && same_tag ms ns
 same_tag _ _ = false
 
+-- two flags, or two jobs of the same tag
 abbrev pub same_kind : LoadKind → LoadKind → Bool
 same_kind (Kinds.Job m) (Kinds.Job n) = same_tag m n
 same_kind Kinds.Flag Kinds.Flag = true
@@ -137,12 +149,14 @@ abbrev pub handed_back : Bool → Entry → Entry
 handed_back b e = if b then e else no_entry
 
 module _ {T : Type 0} (tag : T → List (List ℕ)) where
+  -- the entry of a registration: a refusal has handed back a load of the same kind
   abbrev pub register_entry : Opening → Dir → Option ℕ → Payload T → RegisterReply T → Entry
   register_entry o d m load (RegisterAnswer.Shut back) = handed_back (same_kind (kind_of tag load) (kind_of tag back)) (Register o d m (kind_of tag load) Registers.Shut)
   register_entry o d m load (RegisterAnswer.Crowded back) = handed_back (same_kind (kind_of tag load) (kind_of tag back)) (Register o d m (kind_of tag load) Registers.Crowded)
   register_entry o d m load (RegisterAnswer.Spent back) = handed_back (same_kind (kind_of tag load) (kind_of tag back)) (Register o d m (kind_of tag load) Registers.Spent)
   register_entry o d m load (RegisterAnswer.Waits key e) = Register o d m (kind_of tag load) (Registers.Waits key e)
 
+  -- the entry of a dispatch: a refusal has handed back the same event
   abbrev pub dispatch_entry : EventName → DispatchReply T → Entry
   dispatch_entry e (DispatchAnswer.Spent back) = handed_back (same_event e back) (Dispatch e Dispatches.Spent)
   dispatch_entry e DispatchAnswer.Stale = Dispatch e Dispatches.Stale

@@ -20,9 +20,11 @@ module _ {T : Type 0} where
   abbrev pub shut_as : Registration T → Key × Option T
   shut_as r = (record { number = r.key }, job_of r.load)
 
+  -- how a flag comes out that an event runs
   abbrev pub run_state : Marks → Registration T → FlagState
   run_state m r = Ran r.dir m
 
+  -- how a flag comes out whose opening is closed
   abbrev pub shut_state : Registration T → FlagState
   shut_state r = Closed
 

@@ -5,9 +5,11 @@ use Rattle.stripe_table.specs.declared.flags.FlagState.{FlagState}
 use Rattle.stripe_table.specs.declared.flags.FlagState.TheVariants.{Waiting, Ran, Closed}
 use Rattle.stripe_table.specs.declared.flags.UnaskedFlag.{UnaskedFlag}
 
+-- the number of a flag
 abbrev pub key_of : UnaskedFlag → ℕ
 key_of f = f.key
 
+-- the flag has this number
 abbrev pub flag_has : ℕ → UnaskedFlag → Bool
 flag_has k f = f.key == k
 

@@ -4,6 +4,7 @@ use Rattle.stripe_table.specs.declared.load.Payload.{Payload}
 use Rattle.stripe_table.specs.declared.load.Payload.TheVariants.{Job, Flag}
 
 module _ {T : Type 0} where
+  -- the load is a flag
   abbrev pub is_flag : Payload T → Bool
   is_flag (Job x) = false
   is_flag Flag = true

@@ -1,10 +1,10 @@
 -- What a stripe stands for: the pasts whose facts its table shows.
-use Rattle.std.specs.Prelude.{◌≡◌, ℕ, ◌+◌, ◌*◌, ◌%◌, ◌<◌, ◌≤◌, ◌&&◌, ◌==◌, List, [], ◌∷◌, filter, map, length, true, false, Bool, Option, Some, None, slice_get}
+use Rattle.std.specs.Prelude.{◌≡◌, ℕ, ◌+◌, ◌*◌, ◌%◌, ◌<◌, ◌≤◌, List, [], ◌∷◌, filter, map, length, true, false, Option, Some, None, slice_get}
 use Rattle.std.specs.List.{list_any}
 use Rattle.reg_keys.specs.declared.opening.Opening.{Opening}
 use Rattle.reg_keys.specs.declared.registration.Dir.TheVariants.{Read, Write}
 use Rattle.reg_keys.specs.declared.entry.Entry.{Entry}
-use Rattle.reg_keys.specs.Tests.{same, has_dir, how_many, IsIn}
+use Rattle.reg_keys.specs.Tests.{has_dir, how_many, IsIn}
 use Rattle.reg_keys.specs.Histories.{Registered, EventOut, Unasked, Standing, StillWaits, HasRun, WasShut}
 use Rattle.reg_keys.specs.Replies.{is_flag, reply_of, IsLegal}
 use Rattle.stripe_table.specs.Ascending.{Ascends, AllBelow}
@@ -18,9 +18,11 @@ use Rattle.stripe_table.specs.declared.flags.FlagState.TheVariants as State
 use Rattle.stripe_table.specs.declared.flags.UnaskedFlag.{UnaskedFlag}
 use Rattle.stripe_table.specs.declared.stripe.Stripe.{Stripe}
 
+-- the opening with this number on this descriptor
 abbrev pub opening : ℕ → ℕ → Opening
 opening n fd = record { number = n; fd = fd }
 
+-- what the definitions say of a flag's state
 abbrev pub standing_of : FlagState → Standing
 standing_of State.Waiting = StillWaits
 standing_of (State.Ran d m) = HasRun d m
@@ -30,6 +32,7 @@ standing_of State.Closed = WasShut
 abbrev pub unasked_of : UnaskedFlag → Unasked
 unasked_of f = record { key = record { number = f.key }; opening = f.opening; standing = standing_of f.state }
 
+-- the event of an opening, as the definitions have it
 abbrev pub outs_of : Option OutSlot → Opening → List EventOut
 outs_of None o = []
 outs_of (Some x) o = record { event = record { number = x.number; opening = o }; read = has_dir x.dirs Read; write = has_dir x.dirs Write } ∷ []
@@ -52,6 +55,7 @@ pub record IsOrdered (s n : ℕ) (owner : ℕ → Option Opening) (waits : List 
   pub waiters : (w : Registered) → IsIn w waits → is_flag w.kind ≡ true → IsIn (record { key = w.key; opening = w.opening; standing = StillWaits }) flags
   pub few : length flags ≤ 512
 
+-- the facts are ordered
 abbrev pub AreOrdered : ℕ → Facts → Type 0
 AreOrdered s f = IsOrdered s (next s f) f.owner f.waits f.flags
 
@@ -78,6 +82,7 @@ module _ {T : Type 0} (tag : T → List (List ℕ)) where
     pub fired : how_many (fired_of o) f.flags ≡ d.fired
     pub room : length d.waits + d.fired ≤ 4
 
+  -- what is kept of a descriptor shows what is so of it
   abbrev pub FitsAt : Facts → ℕ → Option (OpenDescriptor T) → Type 0
   FitsAt f fd None = FitsShut f fd
   FitsAt f fd (Some d) = FitsOpen f (opening d.number fd) d

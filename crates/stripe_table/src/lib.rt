@@ -24,3 +24,8 @@ pub use four::Four;
 pub use laws::a_legal_reply_is_in_kind;
 pub use load::{Load, Payload};
 pub use stripe::Stripe;
+
+#[cfg(test)]
+mod limit_tests;
+#[cfg(test)]
+mod tests;

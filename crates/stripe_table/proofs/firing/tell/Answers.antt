@@ -1,4 +1,4 @@
-use Rattle.std.proofs.Common.{◌≡◌, refl, sym, ap, ◌∙◌, subst}
+use Rattle.std.proofs.Common.{refl, sym, subst}
 use Rattle.stripe_table.specs.Ascending.{Ascends}
 use Rattle.stripe_table.specs.Flags.{key_of, settled}
 use Rattle.stripe_table.proofs.Lists.{ascends_changed}

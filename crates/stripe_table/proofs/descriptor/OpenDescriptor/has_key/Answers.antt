@@ -1,4 +1,4 @@
-use Rattle.std.proofs.Common.{sym, ◌∙◌}
+use Rattle.std.proofs.Common.{sym}
 use Rattle.std.proofs.lemmas.Bool.{eq-eqb}
 use Rattle.stripe_table.specs.Descriptors.{waits_as}
 use Rattle.stripe_table.proofs.Lists.{any_at}

@@ -1,4 +1,4 @@
-use Rattle.std.proofs.Common.{◌≡◌, refl, sym, ap, ◌∙◌, subst}
+use Rattle.std.proofs.Common.{sym, ap, ◌∙◌}
 use Rattle.std.specs.Prelude.{remove}
 use Rattle.stripe_table.specs.Flags.{key_of, flag_has}
 use Rattle.stripe_table.proofs.Lists.{at_remove, all_kept}

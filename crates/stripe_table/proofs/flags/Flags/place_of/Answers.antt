@@ -1,12 +1,11 @@
-use Rattle.std.proofs.Common.{◌≡◌, ◌+◌, ◌-◌, ◌/◌, ◌≤◌, ◌<◌, ◌≢◌, ⊎_elim, ◌⊎◌, inl, inr, ℕ, refl, sym, ap, ◌∙◌, subst, length, List, false, arith}
+use Rattle.std.proofs.Common.{◌≡◌, ◌+◌, ◌-◌, ◌/◌, ◌≤◌, ◌<◌, ⊎_elim, ℕ, sym, ◌∙◌, subst, List, false, arith}
 use Rattle.std.specs.Prelude.{Some, slice_get}
 use Rattle.std.specs.List.{list_any}
 use Rattle.std.proofs.lemmas.Bool.{cases_lt}
-use Rattle.std.proofs.lemmas.Option.{slice_get_read, same_Some}
 use Rattle.stripe_table.specs.Ascending.{Ascends}
 use Rattle.stripe_table.specs.Flags.{key_of, flag_has}
 use Rattle.stripe_table.specs.declared.flags.UnaskedFlag.{UnaskedFlag}
-use Rattle.stripe_table.proofs.Lists.{before, none_at, at_or_below, at_or_above}
+use Rattle.stripe_table.proofs.Lists.{none_at, at_or_below, at_or_above}
 use Rattle.stripe_table.proofs.flags.Flags.place_of.Goals as goal
 
 pub loop-low-preserved-then-found-key-2 : goal.loop-low-preserved-then-found-key-2

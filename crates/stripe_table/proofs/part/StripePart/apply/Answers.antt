@@ -1,4 +1,4 @@
-use Rattle.std.proofs.Common.{◌≡◌, refl, sym, ap, ◌∙◌, map}
+use Rattle.std.proofs.Common.{ap, ◌∙◌, map}
 use Rattle.reg_keys.specs.Histories.{past_of}
 use Rattle.stripe_table.specs.Calls.{entry_of}
 use Rattle.stripe_table.specs.declared.calls.Reply.TheVariants as Answer

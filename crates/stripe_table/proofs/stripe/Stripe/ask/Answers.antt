@@ -1,5 +1,5 @@
-use Rattle.std.proofs.Common.{◌*◌, ◌+◌, ◌/◌, ◌≡◌, ◌<◌, ◌%◌, refl, sym, ap, ◌∙◌, set, arith, length, subst, true, false, ℕ, List, ◌∷◌, [], map}
-use Rattle.std.specs.Prelude.{Some, None, option_to_list, filter, not}
+use Rattle.std.proofs.Common.{◌/◌, refl, sym, ap, ◌∙◌, subst}
+use Rattle.std.specs.Prelude.{filter, not}
 use Rattle.std.proofs.lemmas.Bool.{both_ways, cond-true, cond-false}
 use Rattle.reg_keys.specs.Histories.{is_fired}
 use Rattle.reg_keys.specs.Replies as Replies
@@ -8,7 +8,7 @@ use Rattle.stripe_table.specs.Ascending.{Ascends}
 use Rattle.stripe_table.specs.Facts.{facts_of, flag_number, told}
 use Rattle.stripe_table.specs.Flags.{flag_has, is_settled}
 use Rattle.stripe_table.specs.Stands.{standing_of}
-use Rattle.stripe_table.proofs.Steps.{unchanged, stepped}
+use Rattle.stripe_table.proofs.Steps.{stepped}
 use Rattle.stripe_table.proofs.Taking.{ascends_flags}
 use Rattle.stripe_table.proofs.Asks.{same_shows, right_unknown, right_told, told_shows, ran_shows, has_place, fd_is, waits_still}
 use Rattle.stripe_table.proofs.stripe.Stripe.ask.Goals as goal

@@ -1,11 +1,10 @@
-use Rattle.std.proofs.Common.{◌*◌, ◌+◌, ◌/◌, ◌≡◌, ◌<◌, ◌%◌, refl, sym, ap, ◌∙◌, set, arith, length, subst, true, false, ℕ, List, ◌∷◌, map}
-use Rattle.std.specs.Prelude.{Some, None, is_some}
+use Rattle.std.proofs.Common.{◌≡◌, refl, sym, ap, ◌∙◌, set, arith, subst, map}
+use Rattle.std.specs.Prelude.{Some}
 use Rattle.std.proofs.lemmas.Option.{slice_get_within, same_Some, none-some}
 use Rattle.stripe_table.specs.Ascending.{Ascends}
 use Rattle.stripe_table.specs.Calls.{shut_key}
 use Rattle.stripe_table.specs.Facts.{facts_of, flag_number, shut}
 use Rattle.stripe_table.specs.Firing as Firing
-use Rattle.stripe_table.specs.Stands.{Shows}
 use Rattle.stripe_table.proofs.Facts.{fits_here}
 use Rattle.stripe_table.proofs.Steps.{unchanged, stepped, live, dead, place_is, read_is}
 use Rattle.stripe_table.proofs.Taking.{ascends_flags}

@@ -1,5 +1,5 @@
-use Rattle.std.proofs.Common.{◌*◌, ◌+◌, ◌/◌, ◌≡◌, ◌<◌, ◌≤◌, ◌%◌, refl, sym, ap, ◌∙◌, set, arith, length, subst, true, false, ℕ, List, ◌∷◌, map}
-use Rattle.std.specs.Prelude.{Some, None, is_some}
+use Rattle.std.proofs.Common.{◌/◌, ◌≡◌, ◌%◌, refl, sym, ap, ◌∙◌, arith, subst, false, map}
+use Rattle.std.specs.Prelude.{Some}
 use Rattle.std.proofs.lemmas.Option.{slice_get_within, same_Some, none-some}
 use Rattle.reg_keys.specs.declared.opening.Opening.{Opening}
 use Rattle.reg_keys.specs.Histories.{is_live}
@@ -8,7 +8,6 @@ use Rattle.stripe_table.specs.Calls.{fired_key}
 use Rattle.stripe_table.specs.Facts.{facts_of, flag_number, run, with_event, event_of}
 use Rattle.stripe_table.specs.Descriptors as Kept
 use Rattle.stripe_table.specs.Firing as Firing
-use Rattle.stripe_table.specs.Stands.{Shows}
 use Rattle.stripe_table.proofs.Facts.{fits_here}
 use Rattle.stripe_table.proofs.Steps.{unchanged, stepped, spent, not_spent, live, dead, place_is, read_is, there_after}
 use Rattle.stripe_table.proofs.Taking.{ascends_flags}

@@ -1,11 +1,7 @@
-use Rattle.std.proofs.Common.{◌*◌, ◌+◌, ◌/◌, ◌≡◌, refl, sym, ap, ◌∙◌, set, arith, length, subst, true, false}
-use Rattle.std.specs.Prelude.{Some, None, is_some}
+use Rattle.std.proofs.Common.{refl, sym, ap, ◌∙◌, arith}
+use Rattle.std.specs.Prelude.{Some, is_some}
 use Rattle.std.proofs.lemmas.Option.{slice_get_read, slice_get_within, same_Some, none-some}
-use Rattle.std.proofs.lemmas.Bool.{not-true, not-false}
-use Rattle.stripe_table.specs.Facts.{with_event}
-use Rattle.stripe_table.specs.Stands.{Shows}
 use Rattle.stripe_table.specs.Descriptors.{named, dirs_to_name}
-use Rattle.stripe_table.specs.declared.descriptor.OpenDescriptor.{OpenDescriptor}
 use Rattle.stripe_table.proofs.Naming.{unnamed_event, unnamed_shows, named_event, named_shows}
 use Rattle.stripe_table.proofs.stripe.Stripe.name_event.Goals as goal
 

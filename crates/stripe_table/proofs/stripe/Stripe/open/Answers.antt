@@ -1,9 +1,9 @@
-use Rattle.std.proofs.Common.{◌*◌, ◌+◌, ◌/◌, ◌≡◌, refl, sym, ap, ◌∙◌, set, arith, length, subst, true, false, ℕ}
-use Rattle.std.specs.Prelude.{Some, None, is_some}
+use Rattle.std.proofs.Common.{◌*◌, ◌+◌, ◌/◌, ◌≡◌, refl, sym, ap, ◌∙◌, arith, subst, ℕ}
+use Rattle.std.specs.Prelude.{Some, None}
 use Rattle.std.proofs.lemmas.Option.{slice_get_read}
 use Rattle.reg_keys.specs.Histories.{owner_of}
 use Rattle.stripe_table.specs.Facts.{facts_of, made}
-use Rattle.stripe_table.specs.Stands.{Shows, opening}
+use Rattle.stripe_table.specs.Stands.{opening}
 use Rattle.stripe_table.proofs.Steps.{unchanged, stepped, spent, not_spent}
 use Rattle.stripe_table.proofs.Opens.{made_shows, right_taken, right_spent, right_opened}
 use Rattle.stripe_table.proofs.stripe.Stripe.open.Goals as goal

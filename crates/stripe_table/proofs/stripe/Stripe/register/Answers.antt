@@ -1,14 +1,11 @@
-use Rattle.std.proofs.Common.{◌*◌, ◌+◌, ◌/◌, ◌≡◌, ◌<◌, refl, sym, ap, ◌∙◌, set, arith, length, subst, true, false, ℕ, List, ◌∷◌}
-use Rattle.std.specs.Prelude.{Some, None, is_some, ◌||◌, ◌&&◌, nat_le}
+use Rattle.std.proofs.Common.{◌*◌, ◌+◌, refl, sym, ap, ◌∙◌, arith, length, ◌∷◌}
+use Rattle.std.specs.Prelude.{Some}
 use Rattle.std.proofs.lemmas.Option.{slice_get_within, same_Some, none-some}
-use Rattle.std.proofs.lemmas.Bool.{or_parts, and_parts, leb-false, and_cases, both_ways}
-use Rattle.reg_keys.specs.declared.registration.Key.{Key}
 use Rattle.reg_keys.specs.declared.entry.RegisterOutcome.TheVariants as Registers
 use Rattle.reg_keys.specs.declared.entry.Entry.TheVariants.{Register}
 use Rattle.stripe_table.specs.Calls.{kind_of}
 use Rattle.stripe_table.specs.Facts.{facts_of, registered, with_event}
 use Rattle.stripe_table.specs.Descriptors as Kept
-use Rattle.stripe_table.specs.Stands.{Shows}
 use Rattle.stripe_table.proofs.Facts.{fits_here}
 use Rattle.stripe_table.proofs.Steps.{unchanged, stepped, spent, not_spent, live, dead, place_is, read_is, there_after}
 use Rattle.stripe_table.proofs.Registers.{registered_shows, crowded_is, facts_registered, right_shut, right_crowded, right_spent, right_waits, room_left, flag_room, number_kept}

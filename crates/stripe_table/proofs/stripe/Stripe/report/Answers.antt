@@ -1,9 +1,8 @@
-use Rattle.std.proofs.Common.{◌*◌, ◌+◌, ◌/◌, ◌≡◌, refl, sym, ap, ◌∙◌, set, arith, length, subst, true, false}
-use Rattle.std.specs.Prelude.{Some, None, is_some}
+use Rattle.std.proofs.Common.{refl, sym, ap, ◌∙◌, arith}
+use Rattle.std.specs.Prelude.{Some}
 use Rattle.std.proofs.lemmas.Option.{slice_get_within, same_Some, none-some}
 use Rattle.stripe_table.specs.Facts.{facts_of, noted, with_event}
 use Rattle.stripe_table.specs.Descriptors as Kept
-use Rattle.stripe_table.specs.Stands.{Shows}
 use Rattle.stripe_table.proofs.Facts.{fits_here}
 use Rattle.stripe_table.proofs.Steps.{unchanged, stepped, spent, not_spent, live, dead, place_is, read_is, there_after}
 use Rattle.stripe_table.proofs.Reports.{noted_shows, facts_noted, right_stale, right_spent, right_noted}

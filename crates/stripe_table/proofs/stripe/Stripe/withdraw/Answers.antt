@@ -1,6 +1,5 @@
-use Rattle.std.proofs.Common.{◌*◌, ◌+◌, ◌/◌, ◌≡◌, ◌<◌, ◌%◌, refl, sym, ap, ◌∙◌, set, arith, length, subst, true, false, ℕ, List, ◌∷◌, [], map, inl}
-use Rattle.std.specs.Prelude.{Some, None, filter, not, ◌==◌}
-use Rattle.std.specs.List.{list_any}
+use Rattle.std.proofs.Common.{◌≡◌, refl, sym, ap, ◌∙◌, arith, subst, inl}
+use Rattle.std.specs.Prelude.{Some, filter, not}
 use Rattle.std.proofs.lemmas.Bool.{eqb-true}
 use Rattle.std.proofs.lemmas.Option.{slice_get_within, same_Some, none-some}
 use Rattle.reg_keys.specs.Tests.{IsIn}
