@@ -64,6 +64,7 @@ impl Flags {
     ghost use Rattle.stripe_table.specs.Loads.{is_flag};
     ghost use Rattle.stripe_table.specs.Flags.{key_of, flag_has, settled, is_settled, begun, ended};
 
+    /// No flag, with room for as many as a stripe keeps; an error is want of memory.
     pub fn new(alloc: Global) -> Result<Flags, AllocError>
         ensures { IfOk result (λ f. f ≡ []) }
     {
@@ -72,6 +73,7 @@ impl Flags {
         })
     }
 
+    /// Whether no further flag is taken.
     pub fn is_full(&self) -> bool
         ensures { result ≡ nat_le 512 (length self.now) }
     {

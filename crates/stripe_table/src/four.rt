@@ -26,6 +26,7 @@ impl<X> Model for Four<X> {
 }
 
 impl<X: Drop> Four<X> {
+    /// No value.
     pub fn new() -> Four<X>
         ensures { result ≡ [] }
     {
@@ -37,6 +38,7 @@ impl<X: Drop> Four<X> {
         }
     }
 
+    /// How many values are kept, at most four.
     pub fn len(&self) -> usize
         ensures len { result ≡ length self.now }
         ensures most { length self.now ≤ 4 }

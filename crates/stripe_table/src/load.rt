@@ -16,6 +16,7 @@ pub enum Payload<T> {
 impl<T> Payload<T> {
     ghost use Rattle.stripe_table.specs.Loads.{is_flag, job_of};
 
+    /// Whether this is a flag.
     pub fn is_flag(&self) -> bool
         ensures { result ≡ is_flag self.now }
     {
