@@ -136,6 +136,17 @@ fn byte_by_byte(alloc: Global, input: &[u8]) -> Result<Vec<ReadEvent>, AllocErro
     Ok(reads)
 }
 
+/// The input in one piece, or in pieces of one byte.
+fn cut(alloc: Global, input: &[u8], in_bytes: bool) -> Result<Vec<ReadEvent>, AllocError>
+    ensures { IfOk result (λ reads. EachFilled reads.items) }
+{
+    if in_bytes {
+        byte_by_byte(alloc, input)
+    } else {
+        whole(alloc, input)
+    }
+}
+
 /// Asserts the status, the number of bytes sent, how they begin and what was told, for either cutting of the input.
 fn exchanged<R: Abort>(
     rt: &R,
@@ -426,24 +437,26 @@ fn faults_of_the_link_have_their_statuses(rt: HostRuntime) -> Result<(), Fail> {
 #[test]
 fn a_write_that_stops_leaves_a_prefix(rt: HostRuntime) -> Result<(), Fail> {
     let alloc = rt.alloc();
-    let writes = vec![in alloc; WriteEvent::Take(100), WriteEvent::NotYet]?;
-    let scene = Scene {
-        writes,
-        ..Scene::fair(alloc)
-    };
-    let outcome = over_the_site(alloc, &["connection", "site"], whole(alloc, ASKED)?, scene)?;
-    ends(
-        &rt,
-        "a write that stops",
-        &outcome,
-        13,
-        &PAGE.as_bytes()[..100],
-        "not ready\n",
-    );
+    for in_bytes in [false, true] {
+        let writes = vec![in alloc; WriteEvent::Take(100), WriteEvent::NotYet]?;
+        let scene = Scene {
+            writes,
+            ..Scene::fair(alloc)
+        };
+        let reads = cut(alloc, ASKED, in_bytes)?;
+        let outcome = over_the_site(alloc, &["connection", "site"], reads, scene)?;
+        ends(
+            &rt,
+            "a write that stops",
+            &outcome,
+            13,
+            &PAGE.as_bytes()[..100],
+            "not ready\n",
+        );
+    }
     Ok(())
 }
 
-/// Of the writes that follow the first, the very next one would fail.
 #[test]
 fn answers_that_are_ready_together_leave_in_one_write(rt: HostRuntime) -> Result<(), Fail> {
     let alloc = rt.alloc();
@@ -462,33 +475,45 @@ fn answers_that_are_ready_together_leave_in_one_write(rt: HostRuntime) -> Result
 }
 
 #[test]
-fn the_files_and_the_clock_have_their_say(rt: HostRuntime) -> Result<(), Fail> {
+fn faults_of_the_files_have_their_statuses(rt: HostRuntime) -> Result<(), Fail> {
     let alloc = rt.alloc();
-    let words = ["connection", "site"];
-    let absent = Scene {
-        present: false,
-        ..Scene::fair(alloc)
-    };
-    let outcome = over_the_site(alloc, &words, whole(alloc, ASKED)?, absent)?;
-    ends(&rt, "no root", &outcome, 7, b"", "no such folder\n");
-    for (what, call) in [
-        ("a root that fails", 1),
-        ("a look that fails", 2),
-        ("a part that fails", 3),
+    for (what, call, in_bytes) in [
+        ("a root that fails", 1, false),
+        ("a look that fails", 2, false),
+        ("a look that fails, byte by byte", 2, true),
+        ("a part that fails", 3, false),
     ] {
         let scene = Scene {
             failing: vec![in alloc; call]?,
             ..Scene::fair(alloc)
         };
-        let outcome = over_the_site(alloc, &words, whole(alloc, ASKED)?, scene)?;
+        let reads = cut(alloc, ASKED, in_bytes)?;
+        let outcome = over_the_site(alloc, &["connection", "site"], reads, scene)?;
         ends(&rt, what, &outcome, 5, b"", "file fault\n");
     }
-    let late = Scene {
-        moment: NO_DATE,
-        ..Scene::fair(alloc)
-    };
-    let outcome = over_the_site(alloc, &words, whole(alloc, ASKED)?, late)?;
-    assert_eq!(rt; outcome.sent.len(), 122, "no Date");
+    Ok(())
+}
+
+#[test]
+fn a_root_that_is_not_there_and_a_moment_without_a_date(rt: HostRuntime) -> Result<(), Fail> {
+    let alloc = rt.alloc();
+    for in_bytes in [false, true] {
+        let absent = Scene {
+            present: false,
+            ..Scene::fair(alloc)
+        };
+        let reads = cut(alloc, ASKED, in_bytes)?;
+        let outcome = over_the_site(alloc, &["connection", "site"], reads, absent)?;
+        ends(&rt, "no root", &outcome, 7, b"", "no such folder\n");
+        let late = Scene {
+            moment: NO_DATE,
+            ..Scene::fair(alloc)
+        };
+        let reads = cut(alloc, ASKED, in_bytes)?;
+        let outcome = over_the_site(alloc, &["connection", "site"], reads, late)?;
+        assert_eq!(rt; outcome.status, 0, "no Date");
+        assert_eq!(rt; outcome.sent.len(), 122, "no Date");
+    }
     Ok(())
 }
 
