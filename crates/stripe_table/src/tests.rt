@@ -157,7 +157,7 @@ fn closed_text(alloc: Global, reply: CloseReply<Job>) -> Result<String, Fail> {
     Ok(text)
 }
 
-// Makes one call and tells its reply as a text.
+/// Makes one call and tells its reply as a text.
 pub fn perform(alloc: Global, stripe: &mut Stripe<Job>, call: Do) -> Result<String, Fail>
     requires stripe { stripe.old.stripe ≡ 0 }
     requires fits { (past : List Entry) × Fits (λ _. []) past stripe.old }
@@ -183,7 +183,7 @@ pub fn perform(alloc: Global, stripe: &mut Stripe<Job>, call: Do) -> Result<Stri
     }
 }
 
-// Makes the calls in their order on stripe 0 from a count, and compares the replies.
+/// Makes the calls in their order on stripe 0 from a count, and compares the replies.
 pub fn run(alloc: Global, count: u64, rows: &[(Do, &str)]) -> Result<(), Fail>
     requires { (1 ≤ count) × (count < 2 ^ 50) }
 {
