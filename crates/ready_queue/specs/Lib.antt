@@ -1,0 +1,4 @@
+pub mod History
+pub mod Weights
+pub mod Rule
+pub mod Calls
