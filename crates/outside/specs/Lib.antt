@@ -3,6 +3,7 @@ pub mod Causes
 pub mod Counts
 pub mod FileCauses
 pub mod Folder
+pub mod ListenCauses
 pub mod MemClock
 pub mod MemFolder
 pub mod MemSink

@@ -5,8 +5,8 @@ ghost use Rattle.outside.specs.Room.{RoomState};
 use std::alloc::{AllocError, Global};
 use std::marker::Model;
 
-/// Copies as many of the bytes from place `at` on as fit to the front of the buffer, and says how many.
-pub(crate) fn copy_from(bytes: &[u8], at: usize, buf: &mut [u8]) -> usize
+/// Copies as many of the bytes from place `at` on as fit to the front of the buffer, and says how many. The place lies within the bytes, and the buffer isn't empty.
+pub fn copy_from(bytes: &[u8], at: usize, buf: &mut [u8]) -> usize
     requires inside { at < length bytes.now }
     requires room { 0 < length buf.old }
     ensures some { 1 ≤ result }
@@ -21,7 +21,7 @@ pub(crate) fn copy_from(bytes: &[u8], at: usize, buf: &mut [u8]) -> usize
 
 /// Room for so many bytes, which is taken at its making.
 #[derive(Drop)]
-pub(crate) struct Room {
+pub struct Room {
     bytes: Vec<u8>,
     used: usize,
 }
@@ -38,7 +38,8 @@ impl Model for Room {
 }
 
 impl Room {
-    pub(crate) fn new(alloc: Global, size: usize) -> Result<Room, AllocError>
+    /// Room for `size` bytes, with nothing stored.
+    pub fn new(alloc: Global, size: usize) -> Result<Room, AllocError>
         ensures { IfOk result (λ room. room ≡ record { stored = []; size = size }) }
     {
         let bytes = vec![in alloc; 0u8; size]?;
@@ -46,14 +47,14 @@ impl Room {
     }
 
     /// How many more bytes fit.
-    pub(crate) fn free(&self) -> usize
+    pub fn free(&self) -> usize
         ensures { length self.now.stored + result ≡ self.now.size }
     {
         self.bytes.len() - self.used
     }
 
     /// Stores a piece that fits behind what is stored.
-    pub(crate) fn store(&mut self, piece: &[u8])
+    pub fn store(&mut self, piece: &[u8])
         requires { length self.old.stored + length piece.now ≤ self.old.size }
         ensures { self.new ≡ record self.old { stored = self.old.stored ++ piece.now } }
     {
@@ -62,7 +63,8 @@ impl Room {
         self.used = end;
     }
 
-    pub(crate) fn stored(&self) -> &[u8]
+    /// What is stored.
+    pub fn stored(&self) -> &[u8]
         ensures { result.now ≡ self.now.stored }
     {
         &self.bytes[..self.used]

@@ -4,26 +4,28 @@ ghost use Rattle.outside.specs.Counts.{full, more_by_one};
 
 /// How often something happened.
 #[derive(Drop)]
-pub(crate) struct Count {
+pub struct Count {
     n: u64,
-    ghost fits: { n ≤ full },
+    pub ghost fits: { n ≤ full },
 }
 
 impl Count {
-    pub(crate) fn new() -> Count
+    /// Nothing happened yet.
+    pub fn new() -> Count
         ensures { result.n ≡ 0 }
     {
         Count { n: 0 }
     }
 
-    pub(crate) fn now(&self) -> u64
+    /// How often it happened.
+    pub fn now(&self) -> u64
         ensures { result ≡ self.now.n }
     {
         self.n
     }
 
-    /// Counts one more.
-    pub(crate) fn rise(&mut self)
+    /// Counts one more, unless the count stands at the end of its type.
+    pub fn rise(&mut self)
         ensures { self.new.n ≡ more_by_one self.old.n }
     {
         self.n = self.n.saturating_add(1);

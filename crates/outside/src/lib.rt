@@ -1,6 +1,7 @@
 // What a connection stands on: a link, files, a clock and a sink. Each is a trait whose contract all that
 // stands above is proved from, with a form in memory, which tells its bytes, and an adapter over the real
-// thing, which tells its counts alone.
+// thing, which tells its counts alone. A listener, which links come from, is a trait alone: its two forms
+// belong to the pollers, in the crates above.
 //
 // The promise: a call answers that something failed or must wait only where a count of that very object rose.
 #![tactic(auto)]
@@ -11,6 +12,7 @@ mod clock;
 mod count;
 mod files;
 mod link;
+mod listener;
 mod mem_clock;
 mod mem_files;
 mod mem_sink;
@@ -25,9 +27,12 @@ mod sink;
 mod std_link;
 mod std_sink;
 
+pub use bytes::{Room, copy_from};
 pub use clock::Clock;
+pub use count::Count;
 pub use files::{Files, FindOut, Opened, PartOut, RootOut};
 pub use link::{Link, ReadOut, WriteOut};
+pub use listener::{AcceptOut, Listener};
 pub use mem_clock::MemClock;
 pub use mem_files::{MemFile, MemFiles, MemOpen};
 pub use mem_sink::MemSink;

@@ -1,0 +1,53 @@
+-- What an answer of a listener says: of the link that it gives, and of the counts by which a fault or a wait is known.
+use Rattle.std.specs.Prelude.{◌≡◌, ℕ, ◌≤◌, Bool, false, List, [], Option, Some, IfSome, IsSomeAnd, slice_get}
+use Rattle.outside.specs.declared.listener.AcceptOut.{AcceptOut}
+use Rattle.outside.specs.declared.listener.AcceptOut.TheVariants.{Accepted}
+use Rattle.outside.specs.declared.listener.AcceptOut.TheVariants as Accepts
+use Rattle.outside.specs.Counts.{Counts, Rises, more_by_one, nothing_counted}
+
+-- the link that an answer gives has a property
+abbrev pub IfAccepted : {L : Type 0} → AcceptOut L → (L → Type 0) → Type 0
+IfAccepted (Accepted link) P = P link
+IfAccepted Accepts.NotYet P = Unit {0}
+IfAccepted Accepts.Failed P = Unit {0}
+IfAccepted Accepts.NoMemory P = Unit {0}
+
+-- a link of which nothing was asked yet: where it tells its bytes it has taken and sent none and hasn't ended, and nothing was counted
+pub record IsUntouched (taken sent : Option (List ℕ)) (ended : Option Bool) (faults waits : Counts) : Type 0 where
+  pub nothing_taken : IfSome taken (λ bytes. bytes ≡ [])
+  pub nothing_sent : IfSome sent (λ bytes. bytes ≡ [])
+  pub not_ended : IfSome ended (λ e. e ≡ false)
+  pub no_faults : faults ≡ nothing_counted
+  pub no_waits : waits ≡ nothing_counted
+
+-- a number, and the whole input that a link will give
+abbrev pub Plan : Type 0
+Plan = ℕ × List ℕ
+
+-- no two plans have one number: plans that have stand at one place
+abbrev pub HaveNumbersApart : List Plan → Type 0
+HaveNumbersApart plans = (i j : ℕ) (p q : Plan) → slice_get plans i ≡ Some p → slice_get plans j ≡ Some q → p.0 ≡ q.0 → i ≡ j
+
+-- where the plans are told, a link's plan is the one at this place
+abbrev pub IsPlannedAt : Option (List Plan) → ℕ → Option Plan → Type 0
+IsPlannedAt plans place plan = IfSome plans (λ ps. IsSomeAnd (slice_get ps place) (λ p. plan ≡ Some p))
+
+-- how many links were given after an answer: one more where it gave one
+abbrev pub accepted_after : {L : Type 0} → AcceptOut L → ℕ → ℕ
+accepted_after (Accepted link) n = more_by_one n
+accepted_after _ n = n
+
+-- how many answers were that the caller must wait, after an answer: one more where it said so
+abbrev pub accept_waits_after : {L : Type 0} → AcceptOut L → ℕ → ℕ
+accept_waits_after Accepts.NotYet n = more_by_one n
+accept_waits_after _ n = n
+
+-- how many answers in a row failed, after an answer
+abbrev pub row_after : {L : Type 0} → AcceptOut L → ℕ → ℕ
+row_after Accepts.Failed n = more_by_one n
+row_after _ n = 0
+
+-- an answer that failed raised the count of faults, which never falls
+abbrev pub AcceptFaults : {L : Type 0} → AcceptOut L → ℕ → ℕ → Type 0
+AcceptFaults Accepts.Failed old new = (old ≤ new) × Rises old new
+AcceptFaults _ old new = old ≤ new
