@@ -1,0 +1,34 @@
+// The event manager: the registrations of all descriptors, in 32 stripes that any number of threads call at a time. A row of turn cells holds the stripes, so that a call takes the turn of one stripe alone; one cell more holds the numbers that descriptors are opened by.
+//
+// Its promise: each call on an opening or a key makes exactly one entry in the history of its own stripe and none in another's, and its answer is the reply of that entry, in a history that is legal.
+#![tactic(auto)]
+
+mod answers;
+mod bits;
+mod calls;
+mod cells;
+mod free_numbers;
+mod kinds;
+mod manager;
+mod numbers;
+mod numbers_laws;
+mod pass;
+mod stripes;
+mod tries;
+
+pub use answers::{
+    AskOut, CloseOut, DispatchOut, Held, OpenOut, RegisterOut, ReportOut, TryDispatch, TryRegister,
+    TryReport, WithdrawOut,
+};
+pub use cells::{Cells, CellsPass};
+pub use manager::EventManager;
+pub use numbers::{Numbers, NumbersCall, NumbersEntry, NumbersReply};
+pub use numbers_laws::{a_draw_gives_the_least_number, a_number_is_given_back_once};
+pub use pass::MgrPass;
+
+#[cfg(test)]
+mod numbers_tests;
+#[cfg(test)]
+mod plain_numbers;
+#[cfg(test)]
+mod tests;
