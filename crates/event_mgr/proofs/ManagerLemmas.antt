@@ -1,12 +1,9 @@
 -- What the manager's calls say, out of what the calls on its cells say.
-use Rattle.std.proofs.Common.{◌≡◌, ℕ, ◌+◌, ◌<◌, ◌/◌, ◌⊎◌, inl, inr, ⊎_elim, List, [], ◌∷◌, ◌++◌, map, length, set, sym, refl, ap, ◌∙◌, subst, arith}
+use Rattle.std.proofs.Common.{◌≡◌, ℕ, ◌+◌, ◌<◌, ◌/◌, ◌⊎◌, inl, inr, List, ◌∷◌, ◌++◌, map, length, sym, refl, ap, ◌∙◌, subst, arith}
 use Rattle.std.specs.Prelude.{slice_get, Some, nat_lt}
 use Rattle.std.proofs.lemmas.Bool.{cond_both}
 use Rattle.std.proofs.lemmas.Option.{slice_get_within}
 use Rattle.std.proofs.lemmas.List.{length-set}
-use Rattle.reg_keys.specs.declared.limits.TheConstants.{STRIPES}
-use Rattle.reg_keys.specs.declared.opening.Opening.{Opening}
-use Rattle.reg_keys.specs.declared.entry.OpenOutcome.{OpenOutcome}
 use Rattle.reg_keys.specs.declared.entry.OpenOutcome.TheVariants as Opens
 use Rattle.reg_keys.specs.declared.entry.Entry.{Entry}
 use Rattle.reg_keys.specs.declared.entry.Entry.TheVariants as Entries
@@ -18,15 +15,11 @@ use Rattle.turn_cell.specs.declared.pass.Tried.{Tried}
 use Rattle.turn_cell.specs.declared.pass.Tried.TheVariants as Try
 use Rattle.turn_cell.specs.declared.view.View.{View}
 use Rattle.turn_cell.specs.History.{Log, longer}
-use Rattle.turn_cell.specs.View.{seat_of}
 use Rattle.turn_cell.specs.Calls.{view_of, IsStep, HasStepped, Entered, IsRefused, IsSplit, IsJoined}
 use Rattle.stripe_table.specs.Calls.{entry_of, no_entry, IsOfStripe}
 use Rattle.stripe_table.specs.declared.stripe.Stripe.{Stripe}
 use Rattle.stripe_table.specs.declared.calls.StripeCall.{StripeCall}
-use Rattle.stripe_table.specs.declared.calls.StripeCall.TheVariants as Call
 use Rattle.stripe_table.specs.declared.calls.Reply.{Reply}
-use Rattle.stripe_table.specs.declared.calls.Reply.TheVariants as Answer
-use Rattle.stripe_table.specs.declared.calls.OpenReply.TheVariants as OpenAnswer
 use Rattle.event_mgr.specs.Numbers.{numbers_past, IsNumbersPast}
 use Rattle.event_mgr.specs.declared.numbers.NumbersEntry.{NumbersEntry}
 use Rattle.event_mgr.specs.declared.numbers.NumbersCall.{NumbersCall}
@@ -37,9 +30,9 @@ use Rattle.event_mgr.proofs.LeastMissing.{IsDrawReply, draw_kind}
 use Rattle.event_mgr.specs.declared.numbers.Numbers.{Numbers}
 use Rattle.event_mgr.specs.Rows.{At, name_at}
 use Rattle.event_mgr.specs.declared.answers.OpenOut.TheVariants as Open
-use Rattle.event_mgr.specs.Stripes.{stripe_of, past_in, StripeEntered, StripeSpent, StripeTried, StripeTriedSpent, NumbersEntered, NumbersSpent, GivenBack}
-use Rattle.event_mgr.specs.Manager.{MgrView, IsLawful, OnlyAt, EnteredAt, SpentAt, TriedAt, AtBoth, Drew, HasOpened, IsFirst, IsMgrSplit, IsMgrJoined}
-use Rattle.event_mgr.specs.Kinds.{IsAnswered, HasCalled, HasTried}
+use Rattle.event_mgr.specs.Stripes.{stripe_of, past_in, StripeEntered, StripeSpent, StripeTried, StripeTriedSpent, GivenBack}
+use Rattle.event_mgr.specs.Manager.{MgrView, IsLawful, EnteredAt, SpentAt, TriedAt, Drew, HasOpened, IsMgrSplit, IsMgrJoined}
+use Rattle.event_mgr.specs.Kinds.{HasCalled, HasTried}
 use Rattle.event_mgr.proofs.Places.{some_at, each_set, at_imp, map_at}
 use Rattle.event_mgr.proofs.StripeLemmas.{stripe_stands, stripe_name, stripe_entered, stripe_spent, numbers_stand, numbers_name, numbers_entered, numbers_spent, entered_legal, entered_last, numbers_last}
 use Rattle.event_mgr.proofs.KindLemmas.{answered}

@@ -7,18 +7,14 @@ use Rattle.std.proofs.lemmas.Option.{same_Some, none-some, slice_get_within}
 use Rattle.crossbeam_utils.specs.declared.cache_padded.CachePadded.{CachePadded}
 use Rattle.crossbeam_utils.specs.Padded.{padded_value}
 use Rattle.turn_cell.specs.declared.pass.Pass.{Pass}
-use Rattle.turn_cell.specs.declared.pass.Tried.{Tried}
-use Rattle.turn_cell.specs.declared.pass.Tried.TheVariants as Try
-use Rattle.turn_cell.specs.declared.pass.Stepped.{Stepped}
-use Rattle.turn_cell.specs.declared.pass.Stepped.TheVariants as Whole
 use Rattle.turn_cell.specs.declared.cell.TurnCell.{TurnCell}
 use Rattle.turn_cell.specs.declared.view.View.{View}
 use Rattle.turn_cell.specs.History.{Log}
 use Rattle.reg_keys.specs.declared.limits.TheConstants.{STRIPES}
 use Rattle.turn_cell.specs.View.{first_view}
-use Rattle.turn_cell.specs.Calls.{view_of, IsOf, IsStep, HasStepped, IsSplit, IsJoined}
+use Rattle.turn_cell.specs.Calls.{view_of, IsOf, IsSplit, IsJoined}
 use Rattle.event_mgr.specs.Rows.{IsRow, AreFresh, AreFirst, AreSplit, AreJoined, name_at}
-use Rattle.event_mgr.proofs.Places.{get_set, get_snoc, get_before, get_behind, some_at, each_set, each_snoc, map_at}
+use Rattle.event_mgr.proofs.Places.{get_set, get_snoc, get_before, get_behind, each_set, each_snoc, map_at}
 
 module _ {P C R E : Type 0} where
   -- one pass of a row was used

@@ -1,5 +1,5 @@
 -- What the manager tells of an entry, out of what the turn cell tells: of the part no more than its name, and that the history is legal under it.
-use Rattle.std.proofs.Common.{◌≡◌, ℕ, ◌+◌, ◌<◌, inl, inr, List, [], ◌∷◌, ◌++◌, map, sym, refl, ap, ◌∙◌, subst}
+use Rattle.std.proofs.Common.{◌≡◌, ℕ, ◌+◌, List, [], ◌∷◌, ◌++◌, map, refl, ap, ◌∙◌, subst}
 use Rattle.std.proofs.lemmas.List.{map-append, reverse-append}
 use Rattle.reg_keys.specs.declared.entry.Entry.{Entry}
 use Rattle.std.specs.Prelude.{reverse}

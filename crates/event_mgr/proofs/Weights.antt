@@ -1,5 +1,5 @@
 -- What the entries of all stripes weigh together, and what is known of one stripe, as calls are made.
-use Rattle.std.proofs.Common.{◌≡◌, ◌≢◌, ℕ, suc, ◌+◌, ◌/◌, List, [], ◌∷◌, ◌++◌, length, set, sym, refl, ap, ◌∙◌, subst, arith}
+use Rattle.std.proofs.Common.{◌≡◌, ◌≢◌, ℕ, suc, ◌+◌, ◌/◌, List, [], ◌∷◌, ◌++◌, length, set, sym, refl, ap, ◌∙◌, arith}
 use Rattle.std.specs.Prelude.{slice_get, Some}
 use Rattle.reg_keys.specs.declared.entry.Entry.{Entry}
 use Rattle.turn_cell.specs.declared.view.View.{View}
@@ -8,7 +8,6 @@ use Rattle.turn_cell.specs.History.{Log, entries_in}
 use Rattle.turn_cell.specs.View.{own_entries, seat_of}
 use Rattle.turn_cell.specs.Calls.{IsRefused, IsSplit, IsJoined}
 use Rattle.turn_cell.proofs.Weights.{weigh-append, weigh_one, weigh_set}
-use Rattle.event_mgr.specs.Rows.{At, AreSplit, AreJoined}
 use Rattle.event_mgr.specs.Stripes.{StripeEntered, StripeSpent, StripeTried, StripeTriedSpent}
 use Rattle.event_mgr.specs.declared.answers.Held.{Held}
 use Rattle.event_mgr.specs.Manager.{MgrView, OnlyAt, EnteredAt, SpentAt, TriedAt, TriedSpentAt, BusyAt, own_weight, own_in, seen_in, own_by, seen_by, IsMgrSplit, IsMgrJoined}

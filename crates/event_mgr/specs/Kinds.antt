@@ -1,7 +1,5 @@
 -- What a call on a stripe says, whichever call it is: its reply is one to this call, and stands in the entry.
-use Rattle.std.specs.Prelude.{◌≡◌, ℕ, ◌<◌, List, map}
-use Rattle.reg_keys.specs.declared.limits.TheConstants.{DESCRIPTORS}
-use Rattle.reg_keys.specs.declared.opening.Opening.{Opening}
+use Rattle.std.specs.Prelude.{◌≡◌, ℕ, List}
 use Rattle.reg_keys.specs.declared.entry.Entry.{Entry}
 use Rattle.reg_keys.specs.declared.entry.Entry.TheVariants as Entries
 use Rattle.turn_cell.specs.declared.pass.Stepped.{Stepped}
@@ -16,7 +14,6 @@ use Rattle.stripe_table.specs.declared.calls.Reply.{Reply}
 use Rattle.stripe_table.specs.declared.calls.Reply.TheVariants as Answer
 use Rattle.stripe_table.specs.declared.calls.OpenReply.{OpenReply}
 use Rattle.stripe_table.specs.declared.calls.OpenReply.TheVariants as OpenAnswer
-use Rattle.event_mgr.specs.declared.answers.Held.{Held}
 use Rattle.event_mgr.specs.Manager.{MgrView, EnteredAt, SpentAt, TriedAt, TriedSpentAt, BusyAt, IsWellFormed, NotesFor, RegistersFor, DispatchesFor}
 
 -- what is opened is an opening of this descriptor, and so is one that has it

@@ -1,5 +1,5 @@
 -- What the calls of the manager say, over what its pass knows before and after.
-use Rattle.std.specs.Prelude.{◌≡◌, ℕ, ◌+◌, ◌/◌, ◌%◌, ◌^◌, ◌<◌, ◌⊎◌, List, [], ◌∷◌, map, length, slice_get, Option, Some, None}
+use Rattle.std.specs.Prelude.{◌≡◌, ℕ, ◌/◌, ◌^◌, ◌<◌, ◌⊎◌, List, [], map, length, slice_get, Option, Some, None}
 use Rattle.reg_keys.specs.declared.limits.TheConstants.{STRIPES, DESCRIPTORS}
 use Rattle.reg_keys.specs.declared.opening.Opening.{Opening}
 use Rattle.reg_keys.specs.declared.event.EventName.{EventName}
@@ -18,8 +18,7 @@ use Rattle.turn_cell.specs.Weights.{weigh}
 use Rattle.turn_cell.specs.History.{Log}
 use Rattle.turn_cell.specs.View.{own_entries, first_view}
 use Rattle.turn_cell.specs.Calls.{view_of, IsOf, IsRefused, IsSplit, IsJoined}
-use Rattle.stripe_table.specs.Calls.{reported, registered, dispatched, kind_of, kind_of_job, shut_key, HandsEventBack}
-use Rattle.stripe_table.specs.declared.stripe.Stripe.{Stripe}
+use Rattle.stripe_table.specs.Calls.{reported, registered, dispatched, kind_of, kind_of_job, shut_key}
 use Rattle.stripe_table.specs.declared.load.Payload.{Payload}
 use Rattle.stripe_table.specs.declared.calls.ReportReply.{ReportReply}
 use Rattle.stripe_table.specs.declared.calls.ReportReply.TheVariants as Report
@@ -31,7 +30,6 @@ use Rattle.event_mgr.specs.Numbers.{numbers_past, IsNumbersPast}
 use Rattle.event_mgr.specs.Rows.{At, AreOf, AreFirst, AreSplit, AreJoined, views_of}
 use Rattle.event_mgr.specs.Stripes.{stripe_of, past_in, StripeEntered, StripeSpent, StripeTried, StripeTriedSpent, NumbersEntered, NumbersSpent, GivenBack}
 use Rattle.event_mgr.specs.declared.numbers.NumbersCall.TheVariants.{Draw}
-use Rattle.event_mgr.specs.declared.numbers.NumbersReply.{NumbersReply}
 use Rattle.event_mgr.specs.declared.numbers.NumbersReply.TheVariants.{Drawn, AllOut}
 use Rattle.event_mgr.specs.declared.numbers.NumbersEntry.{NumbersEntry}
 use Rattle.event_mgr.specs.declared.pass.MgrPass.{MgrPass}
@@ -76,19 +74,21 @@ module _ {T : Type 0} where
     pub numbers : IsOf m.numbers p.numbers
     pub lawful : IsLawful (mgr_view p)
 
--- what is known of one stripe, of those that are known
+-- what was seen of a stripe of which this is known
 abbrev pub seen_by : Option (View Entry) → Log Entry
 seen_by (Some x) = x.seen
 seen_by None = []
 
+-- the own entries among it
 abbrev pub own_by : Option (View Entry) → Log Entry
 own_by (Some x) = own_entries x
 own_by None = []
 
--- what the pass has seen of a stripe's history, and its own entries of it
+-- what the pass has seen of a stripe's history
 abbrev pub seen_in : ℕ → MgrView → Log Entry
 seen_in s v = seen_by (slice_get v.stripes s)
 
+-- its own entries of it
 abbrev pub own_in : ℕ → MgrView → Log Entry
 own_in s v = own_by (slice_get v.stripes s)
 
@@ -126,10 +126,11 @@ EnteredAt s e v w = OnlyAt s (StripeEntered e) v w
 abbrev pub SpentAt : ℕ → MgrView → MgrView → Type 0
 SpentAt s v w = OnlyAt s StripeSpent v w
 
--- the same of a call that makes one try
+-- one `fetch_or` was made, this stripe's history got the entry, and no other history got any
 abbrev pub TriedAt : ℕ → Entry → MgrView → MgrView → Type 0
 TriedAt s e v w = OnlyAt s (StripeTried e) v w
 
+-- one `fetch_or` was made, and no history got an entry, since this stripe's cell has 2 ^ 62
 abbrev pub TriedSpentAt : ℕ → MgrView → MgrView → Type 0
 TriedSpentAt s v w = OnlyAt s StripeTriedSpent v w
 
@@ -172,13 +173,16 @@ module _ {T : Type 0} where
 
 -- what a call says whose answers are the stripe's replies: given what it is that an entry was made, and that the cell was found spent
 module _ (Made : Entry → Type 0) (Met : Type 0) where
+  -- of a report
   abbrev pub Reports : Opening → Dirs → ReportReply → Type 0
   Reports o ds r = (Made (Entries.Report o ds (reported r)) × NotesFor o r) ⊎ ((r ≡ Report.Spent) × Met)
 
   module _ {T : Type 0} (tag : T → List (List ℕ)) where
+    -- of a registration
     abbrev pub Registers : Opening → Dir → Option ℕ → Payload T → RegisterReply T → Type 0
     Registers o d m load r = (Made (Entries.Register o d m (kind_of tag load) (registered r)) × RegistersFor tag o load r) ⊎ ((r ≡ Register.Spent load) × Met)
 
+    -- of a dispatch
     abbrev pub Dispatches : EventName → DispatchReply T → Type 0
     Dispatches x r = (Made (Entries.Dispatch x (dispatched tag r)) × DispatchesFor x r) ⊎ ((r ≡ Dispatch.Spent x) × Met)
 

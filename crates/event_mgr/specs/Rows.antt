@@ -1,5 +1,5 @@
 -- Rows of turn cells, and rows of passes of them. What the passes of a row know is a row of views.
-use Rattle.std.specs.Prelude.{◌≡◌, ℕ, ◌<◌, List, [], ◌∷◌, map, length, slice_get, slice_set, Some}
+use Rattle.std.specs.Prelude.{◌≡◌, ℕ, List, [], ◌∷◌, map, length, slice_get, slice_set, Some}
 use Rattle.crossbeam_utils.specs.declared.cache_padded.CachePadded.{CachePadded}
 use Rattle.crossbeam_utils.specs.Padded.{padded_value}
 use Rattle.reg_keys.specs.declared.limits.TheConstants.{STRIPES}

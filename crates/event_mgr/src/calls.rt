@@ -1,5 +1,5 @@
 // The manager's calls that wait for their stripe's turn. Each is one call on one stripe.
-ghost use Rattle.std.specs.Prelude.{◌≡◌, ◌<◌};
+ghost use Rattle.std.specs.Prelude.{◌<◌};
 ghost use Rattle.reg_keys.specs.declared.limits.TheConstants.{STRIPES};
 ghost use Rattle.stripe_table.specs.Calls.{IsOfStripe};
 ghost use Rattle.turn_cell.specs.Calls.{IsOf, view_of};

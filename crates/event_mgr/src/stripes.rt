@@ -1,5 +1,5 @@
 // The 32 stripes of a new manager, and which stripe a call is on.
-ghost use Rattle.std.specs.Prelude.{◌≡◌, ◌<◌, ◌∷◌, [], length, All, IfOk};
+ghost use Rattle.std.specs.Prelude.{◌≡◌, ◌<◌, IfOk};
 ghost use Rattle.reg_keys.specs.declared.limits.TheConstants.{STRIPES};
 ghost use Rattle.event_mgr.specs.Rows.{AreNewParts};
 ghost use Rattle.event_mgr.specs.Stripes.{stripe_of};

@@ -1,5 +1,5 @@
 // Rows of cells on two threads, and the manager's calls on one.
-ghost use Rattle.std.specs.Prelude.{◌≡◌, ◌∷◌, [], IfOk};
+ghost use Rattle.std.specs.Prelude.{◌∷◌, [], IfOk};
 ghost use Rattle.event_mgr.specs.Rows.{AreOf, AreNewParts};
 ghost use Rattle.event_mgr.specs.Manager.{IsOfMgr};
 

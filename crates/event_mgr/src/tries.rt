@@ -1,5 +1,5 @@
 // The manager's calls that don't wait. Each makes one `fetch_or`, on the word of its stripe's cell.
-ghost use Rattle.std.specs.Prelude.{◌≡◌, ◌<◌};
+ghost use Rattle.std.specs.Prelude.{◌<◌};
 ghost use Rattle.reg_keys.specs.declared.limits.TheConstants.{STRIPES};
 ghost use Rattle.stripe_table.specs.Calls.{IsOfStripe};
 ghost use Rattle.event_mgr.specs.Manager.{IsOfMgr, mgr_view, HasTriedReport, HasTriedRegister, HasTriedDispatch};

@@ -1,8 +1,7 @@
-use Rattle.std.proofs.Common.{rules, ◌≡◌, ℕ, ◌+◌, ◌<◌, [], ◌∷◌, ◌++◌, length, refl, sym, ap, ◌∙◌, subst, arith}
+use Rattle.std.proofs.Common.{rules, ◌≡◌, ◌+◌, [], ◌∷◌, length, refl, sym, ap, ◌∙◌, arith}
 use Rattle.std.specs.Prelude.{slice_get, Some}
 use Rattle.std.proofs.lemmas.Option.{slice_get_read}
 use Rattle.std.proofs.lemmas.List.{length-append}
-use Rattle.turn_cell.specs.Calls.{view_of}
 use Rattle.event_mgr.proofs.Places.{get_behind}
 use Rattle.event_mgr.proofs.RowLemmas.{JoinsTo, row_set, back_start, back_next_at, all_joined}
 use Rattle.event_mgr.proofs.cells.Cells.join.Goals as goal

@@ -1,10 +1,8 @@
-use Rattle.std.proofs.Common.{rules, ◌≡◌, ℕ, ◌+◌, [], ◌∷◌, ◌++◌, List, length, refl, sym, ap, ◌∙◌, subst, arith}
-use Rattle.std.specs.Prelude.{slice_get, Some}
+use Rattle.std.proofs.Common.{rules, ◌≡◌, ◌+◌, [], ◌∷◌, ◌++◌, length, sym, ap, ◌∙◌, subst, arith}
 use Rattle.std.proofs.lemmas.List.{length-append}
-use Rattle.std.specs.Vec.Iter.{into_iter_items, into_iter_len}
+use Rattle.std.specs.Vec.Iter.{into_iter_items}
 use Rattle.turn_cell.specs.Calls.{IsOf}
 use Rattle.turn_cell.specs.View.{first_view}
-use Rattle.event_mgr.specs.Rows.{name_at}
 use Rattle.event_mgr.proofs.RowLemmas.{AreMade, AreLeft, made_start, made_next, made_row, made_first, left_first, left_next}
 use Rattle.event_mgr.proofs.cells.Cells.new.Goals as goal
 

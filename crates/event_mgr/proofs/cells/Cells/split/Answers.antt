@@ -1,8 +1,6 @@
-use Rattle.std.proofs.Common.{rules, ◌≡◌, ℕ, ◌+◌, ◌<◌, [], ◌∷◌, ◌++◌, length, set, refl, sym, ap, ◌∙◌, subst, arith}
+use Rattle.std.proofs.Common.{rules, ◌≡◌, ◌+◌, length, set, refl, sym, ap, ◌∙◌, subst, arith}
 use Rattle.std.specs.Prelude.{slice_get, Some}
 use Rattle.std.proofs.lemmas.Option.{slice_get_read}
-use Rattle.turn_cell.specs.Calls.{view_of}
-use Rattle.event_mgr.specs.Rows.{name_at}
 use Rattle.event_mgr.proofs.RowLemmas.{Through, SplitsTo, AreOfFirst, row_set, first_next, first_whole, through_next, all_split}
 use Rattle.event_mgr.proofs.cells.Cells.split.Goals as goal
 

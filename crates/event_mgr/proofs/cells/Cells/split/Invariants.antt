@@ -1,5 +1,5 @@
 use Rattle.std.proofs.Common.{◌≡◌, length, vec_capacity}
-use Rattle.event_mgr.specs.Rows.{AreOf, IsRow}
+use Rattle.event_mgr.specs.Rows.{AreOf}
 use Rattle.event_mgr.proofs.RowLemmas.{Through, SplitsTo, AreOfFirst}
 use Rattle.event_mgr.proofs.cells.Cells.split.Given as goal
 
