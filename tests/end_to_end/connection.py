@@ -1,6 +1,7 @@
 """Runs `warp_serve connection ROOT` over pipes: what it writes, its status and its error line, on real folders."""
 import os
 import re
+import select
 import shutil
 import subprocess
 import sys
@@ -34,13 +35,22 @@ class Program:
         shutil.copy(built, self.path)
         self.path.chmod(0o755)
 
+    def lowered(self):
+        """What makes a run one of nobody, where this is root."""
+        return {"user": NOBODY, "group": NOBODY, "extra_groups": []} if os.geteuid() == 0 else {}
+
+    def start(self, words):
+        """A run whose pipes stay in the caller's hands."""
+        return subprocess.Popen(
+            [self.path, *words], stdin=subprocess.PIPE, stdout=subprocess.PIPE, stderr=subprocess.PIPE, **self.lowered()
+        )
+
     def run(self, words, text=b"", **streams):
         """The status, the bytes written and the error text of a run, as nobody where this is root."""
-        lower = {"user": NOBODY, "group": NOBODY, "extra_groups": []} if os.geteuid() == 0 else {}
         given = {} if "stdin" in streams else {"input": text}
         streams.setdefault("stdout", subprocess.PIPE)
         done = subprocess.run(
-            [self.path, *words], stderr=subprocess.PIPE, timeout=60, **lower, **given, **streams
+            [self.path, *words], stderr=subprocess.PIPE, timeout=60, **self.lowered(), **given, **streams
         )
         return done.returncode, done.stdout, done.stderr.decode()
 
@@ -175,6 +185,68 @@ def check_cutting(checks, program, top):
     checks.equal("pieces of one byte", (status, len(out), same, error), (0, 140 + 1141 + 141, True, ""))
 
 
+def post(fields, body=b""):
+    return f"POST /a.txt HTTP/1.1\r\nHost: a\r\n{fields}\r\n".encode() + body
+
+
+def status_lines(out):
+    """The status line of each answer, in order."""
+    return re.findall(rb"HTTP/1\.1 \d\d\d [A-Za-z ]+", out)
+
+
+NOT_ALLOWED = b"HTTP/1.1 405 Method Not Allowed"
+GO_ON = b"HTTP/1.1 100 Continue"
+
+
+def check_bodies(checks, program, top):
+    """Bodies are passed over, and the requests behind them are answered and none in them."""
+    hidden = get("/big.bin")
+    chunked = b"5;a=b\r\nhello\r\n" + b"%x\r\n" % len(hidden) + hidden + b"\r\n0\r\nT: 1\r\n\r\n"
+    for what, text in (
+        ("a body with a length", post("Content-Length: 5\r\n", b"hello")),
+        ("a body that is a request", post(f"Content-Length: {len(hidden)}\r\n", hidden)),
+        ("a body in chunks", post("Transfer-Encoding: chunked\r\n", chunked)),
+        ("a body of 1 MiB", post("Content-Length: 1048576\r\n", b"G" * 1048576)),
+    ):
+        status, out, error = program.run(["connection", str(top)], text + get("/"))
+        checks.equal(what, (status, status_lines(out), out.endswith(b"\r\n\r\nhi\n"), error), (0, [NOT_ALLOWED, b"HTTP/1.1 200 OK"], True, ""))
+    got = program.run(["connection", str(top)], post("Content-Length: 5\r\n", b"hell"))
+    checks.equal("a body cut short", got, (1, b"", "input cut short\n"))
+
+
+def check_framings(checks, program, top):
+    """What two servers may frame differently is refused and closes, and nothing behind it is answered."""
+    for fields, body, line in (
+        ("Content-Length: 5, 6\r\n", b"hello", b"HTTP/1.1 400 Bad Request"),
+        ("Content-Length: 5\r\nContent-Length: 6\r\n", b"hello", b"HTTP/1.1 400 Bad Request"),
+        ("Content-Length: +5\r\n", b"hello", b"HTTP/1.1 400 Bad Request"),
+        ("Content-Length: 5\r\nTransfer-Encoding: chunked\r\n", b"0\r\n\r\n", b"HTTP/1.1 400 Bad Request"),
+        ("Transfer-Encoding: chunked, gzip\r\n", b"0\r\n\r\n", b"HTTP/1.1 400 Bad Request"),
+        ("Transfer-Encoding: chunked, chunked\r\n", b"0\r\n\r\n", b"HTTP/1.1 400 Bad Request"),
+        ("Transfer-Encoding: gzip, chunked\r\n", b"0\r\n\r\n", b"HTTP/1.1 501 Not Implemented"),
+        ("Transfer-Encoding: chunked\r\n", b"0x5\r\nhello\r\n0\r\n\r\n", b"HTTP/1.1 400 Bad Request"),
+        ("Transfer-Encoding: chunked\r\n", b"5\nhello\r\n0\r\n\r\n", b"HTTP/1.1 400 Bad Request"),
+        ("Transfer-Encoding: chunked\r\n", b"100001\r\n", b"HTTP/1.1 413 Content Too Large"),
+        ("Content-Length: 1048577\r\n", b"", b"HTTP/1.1 413 Content Too Large"),
+        ("Expect: a miracle\r\nContent-Length: 5\r\n", b"hello", b"HTTP/1.1 417 Expectation Failed"),
+    ):
+        status, out, error = program.run(["connection", str(top)], post(fields, body) + get("/"))
+        closes = b"\r\nConnection: close\r\n\r\n" in out
+        checks.equal(fields.strip() + " and " + repr(body), (status, status_lines(out), closes, error), (0, [line], True, ""))
+
+
+def check_interim(checks, program, top):
+    """A client that waits for leave to send its body gets it before the body is sent."""
+    run = program.start(["connection", str(top)])
+    run.stdin.write(post("Expect: 100-continue\r\nContent-Length: 5\r\n"))
+    run.stdin.flush()
+    ready, _, _ = select.select([run.stdout], [], [], 30)
+    leave = run.stdout.read1(4096) if ready else b""
+    checks.equal("leave to send the body", leave, GO_ON + b"\r\n\r\n")
+    out, error = run.communicate(b"hello" + get("/"), timeout=60)
+    checks.equal("the answers behind it", (run.returncode, status_lines(out), error), (0, [NOT_ALLOWED, b"HTTP/1.1 200 OK"], b""))
+
+
 def main():
     checks = Checks()
     with tempfile.TemporaryDirectory() as folder:
@@ -188,6 +260,9 @@ def main():
         check_statuses(checks, program, top, folder)
         check_faults(checks, program, top, folder)
         check_cutting(checks, program, top)
+        check_bodies(checks, program, top)
+        check_framings(checks, program, top)
+        check_interim(checks, program, top)
     print(f"{checks.passed} passed, {checks.failed} failed")
     return 1 if checks.failed else 0
 

@@ -1,22 +1,42 @@
 -- One step of the answers, and of what goes with them.
-use Rattle.std.proofs.Common.{◌≡◌, ℕ, zero, suc, ◌+◌, ◌<◌, Bool, true, false, List, [], ◌∷◌, ◌++◌, drop, refl, ap, arith}
+use Rattle.std.proofs.Common.{◌≡◌, ℕ, zero, suc, ◌+◌, ◌<◌, Bool, true, false, List, [], ◌∷◌, ◌++◌, drop, refl, ap, ◌∙◌, arith}
 use Rattle.std.specs.Prelude.{if◌then◌else◌}
-use Rattle.warp_request.specs.Verdict.{more, refused, asked, Asked}
+use Rattle.warp_request.specs.Body.{BodyVerdict, body_of}
 use Rattle.warp_request.specs.Next.{next_of}
+use Rattle.warp_request.specs.Verdict.{Verdict, more, Asked}
+use Rattle.warp_request.specs.Verdict as head
 use Rattle.warp_response.specs.Text.{answer_text, refusal_text}
-use Rattle.conn_loop.specs.Answers.{closes, last_word, answers_at, answers_within, finals_at, finals_within, closed_at, closed_within, rest_at, rest_within}
+use Rattle.conn_loop.specs.Answers.{closes, last_word, answers_at, answers_within, answers_behind, finals_at, finals_within, closed_at, closed_within, rest_at, rest_within}
 use Rattle.conn_loop.specs.Replying.{Replying}
+use Rattle.conn_loop.specs.Turns.{unfinished, refused, whole, turn_of, turn_by_head, turn_by_body, interim_of, interim_by}
+
+-- ---- what bytes begin with
+
+-- by the verdict on the head
+pub turn_is : (s : List ℕ) (v : Verdict) → next_of s ≡ v → turn_of s ≡ turn_by_head s v
+unfolding turn_of
+turn_is s v is = ap (λ (w : Verdict). turn_by_head s w) is
+
+-- and by that on the body behind it
+pub turn_asked : (s : List ℕ) (a : Asked) (v : BodyVerdict) → next_of s ≡ head.asked a → body_of a.framing (drop a.len s) ≡ v → turn_of s ≡ turn_by_body a v
+turn_asked s a v is says = turn_is s (head.asked a) is ∙ ap (λ (w : BodyVerdict). turn_by_body a w) says
+
+pub interim_is : (s : List ℕ) (v : Verdict) → next_of s ≡ v → interim_of s ≡ interim_by v
+unfolding interim_of
+interim_is s v is = ap (λ (w : Verdict). interim_by w) is
+
+pub turn_more : (s : List ℕ) → next_of s ≡ more → turn_of s ≡ unfinished
+turn_more s is = turn_is s more is
 
 -- ---- no final answer may follow, or no moment is there
 
-pub answers_done : (reply : Replying) (s ks : List ℕ) → answers_within reply zero s ks ≡ []
-unfolding answers_within
-answers_done reply s ks = refl
+pub behind_done : (reply : Replying) (s ks : List ℕ) → answers_behind reply zero s ks ≡ []
+unfolding answers_behind
+behind_done reply s ks = refl
 
-pub answers_none : (reply : Replying) (k : ℕ) (s : List ℕ) → answers_within reply k s [] ≡ []
+pub within_done : (reply : Replying) (s ks : List ℕ) → answers_within reply zero s ks ≡ []
 unfolding answers_within
-answers_none reply zero s = refl
-answers_none reply (suc k) s = refl
+within_done reply s ks = refl
 
 pub finals_done : (k : ℕ) (s : List ℕ) → k ≡ 0 → finals_within k s ≡ 0
 unfolding finals_within
@@ -28,87 +48,109 @@ unfolding closed_within
 closed_done zero s is = refl
 closed_done (suc k) s is = absurd (omega (arith, is))
 
--- ---- too little to say
+-- ---- the interim answer comes first
 
-pub finals_more : (k : ℕ) (s : List ℕ) → next_of s ≡ more → finals_within k s ≡ 0
+pub within_is : (reply : Replying) (k : ℕ) (s ks : List ℕ) → 0 < k → answers_within reply k s ks ≡ interim_of s ++ answers_behind reply k s ks
+unfolding answers_within answers_behind
+within_is reply zero s ks some = absurd (omega (arith, some))
+within_is reply (suc k) s ks some = refl
+
+-- where there is none, both are the same
+pub within_behind : (reply : Replying) (k : ℕ) (s ks : List ℕ) → interim_of s ≡ [] → answers_within reply k s ks ≡ answers_behind reply k s ks
+unfolding answers_within answers_behind
+within_behind reply zero s ks none = refl
+within_behind reply (suc k) s ks none = ap (λ (t : List ℕ). t ++ answers_behind reply (suc k) s ks) none
+
+-- ---- a request that isn't whole
+
+pub behind_unfinished : (reply : Replying) (k : ℕ) (s ks : List ℕ) → turn_of s ≡ unfinished → answers_behind reply k s ks ≡ []
+unfolding answers_behind answers_at
+behind_unfinished reply zero s ks is = refl
+behind_unfinished reply (suc k) s ks is = rw is refl
+
+pub finals_unfinished : (k : ℕ) (s : List ℕ) → turn_of s ≡ unfinished → finals_within k s ≡ 0
 unfolding finals_within finals_at
-finals_more zero s is = refl
-finals_more (suc k) s is = rw is refl
+finals_unfinished zero s is = refl
+finals_unfinished (suc k) s is = rw is refl
 
-pub rest_more : (k : ℕ) (s : List ℕ) → next_of s ≡ more → rest_within k s ≡ s
+pub rest_unfinished : (k : ℕ) (s : List ℕ) → turn_of s ≡ unfinished → rest_within k s ≡ s
 unfolding rest_within rest_at
-rest_more zero s is = refl
-rest_more (suc k) s is = rw is refl
+rest_unfinished zero s is = refl
+rest_unfinished (suc k) s is = rw is refl
 
-pub closed_more : (k : ℕ) (s : List ℕ) → 0 < k → next_of s ≡ more → closed_within k s ≡ false
+pub closed_unfinished : (k : ℕ) (s : List ℕ) → 0 < k → turn_of s ≡ unfinished → closed_within k s ≡ false
 unfolding closed_within closed_at
-closed_more zero s some is = absurd (omega (arith, some))
-closed_more (suc k) s some is = rw is refl
+closed_unfinished zero s some is = absurd (omega (arith, some))
+closed_unfinished (suc k) s some is = rw is refl
+
+-- too little to say leaves the connection open
+pub closed_more : (k : ℕ) (s : List ℕ) → 0 < k → next_of s ≡ more → closed_within k s ≡ false
+closed_more k s some is = closed_unfinished k s some (turn_more s is)
 
 -- ---- a refusal
 
-pub answers_refused : (reply : Replying) (k : ℕ) (s : List ℕ) (m : ℕ) (ks : List ℕ) (code : ℕ) → next_of s ≡ refused code
-    → answers_within reply (suc k) s (m ∷ ks) ≡ refusal_text code m
-unfolding answers_within answers_at
+pub answers_refused : (reply : Replying) (k : ℕ) (s : List ℕ) (m : ℕ) (ks : List ℕ) (code : ℕ) → turn_of s ≡ refused code
+    → answers_behind reply (suc k) s (m ∷ ks) ≡ refusal_text code m
+unfolding answers_behind answers_at
 answers_refused reply k s m ks code is = rw is refl
 
-pub finals_refused : (k : ℕ) (s : List ℕ) (code : ℕ) → next_of s ≡ refused code → finals_within (suc k) s ≡ 1 + finals_within 0 s
+pub finals_refused : (k : ℕ) (s : List ℕ) (code : ℕ) → turn_of s ≡ refused code → finals_within (suc k) s ≡ 1 + finals_within 0 s
 unfolding finals_within finals_at
 finals_refused k s code is = rw is (omega arith)
 
-pub closed_refused : (k : ℕ) (s : List ℕ) (code : ℕ) → next_of s ≡ refused code → closed_within (suc k) s ≡ closed_within 0 s
+pub closed_refused : (k : ℕ) (s : List ℕ) (code : ℕ) → turn_of s ≡ refused code → closed_within (suc k) s ≡ closed_within 0 s
 unfolding closed_within closed_at
 closed_refused k s code is = rw is refl
 
-pub rest_refused : (k : ℕ) (s : List ℕ) (code : ℕ) → next_of s ≡ refused code → rest_within (suc k) s ≡ rest_within 0 s
+pub rest_refused : (k : ℕ) (s : List ℕ) (code : ℕ) → turn_of s ≡ refused code → rest_within (suc k) s ≡ rest_within 0 s
 unfolding rest_within rest_at
 rest_refused k s code is = rw is refl
 
 -- ---- an answer
 
-answers_left : (reply : Replying) (b : Bool) (k : ℕ) (s ks : List ℕ)
+answers_unless : (reply : Replying) (b : Bool) (k : ℕ) (s ks : List ℕ)
     → (if b then [] else answers_within reply k s ks) ≡ answers_within reply (if b then 0 else k) s ks
 unfolding answers_within
-answers_left reply true k s ks = refl
-answers_left reply false k s ks = refl
+answers_unless reply true k s ks = refl
+answers_unless reply false k s ks = refl
 
-pub answers_asked : (reply : Replying) (k : ℕ) (s : List ℕ) (m : ℕ) (ks : List ℕ) (a : Asked) → next_of s ≡ asked a
-    → answers_within reply (suc k) s (m ∷ ks) ≡ answer_text (reply a) m (last_word a k) ++ answers_within reply (if closes a k then 0 else k) (drop a.len s) ks
-unfolding answers_within answers_at
-answers_asked reply k s m ks a is =
-    rw is (ap (λ (t : List ℕ). answer_text (reply a) m (last_word a k) ++ t) (answers_left reply (closes a k) k (drop a.len s) ks))
+pub answers_whole : (reply : Replying) (k : ℕ) (s : List ℕ) (m : ℕ) (ks : List ℕ) (a : Asked) (len : ℕ) → turn_of s ≡ whole a len
+    → answers_behind reply (suc k) s (m ∷ ks) ≡ answer_text (reply a) m (last_word a k) ++ answers_within reply (if closes a k then 0 else k) (drop len s) ks
+unfolding answers_behind answers_at
+answers_whole reply k s m ks a len is =
+    rw is (ap (λ (t : List ℕ). answer_text (reply a) m (last_word a k) ++ t) (answers_unless reply (closes a k) k (drop len s) ks))
 
-finals_left : (b : Bool) (k : ℕ) (s : List ℕ) → (if b then 0 else finals_within k s) ≡ finals_within (if b then 0 else k) s
+finals_unless : (b : Bool) (k : ℕ) (s : List ℕ) → (if b then 0 else finals_within k s) ≡ finals_within (if b then 0 else k) s
 unfolding finals_within
-finals_left true k s = refl
-finals_left false k s = refl
+finals_unless true k s = refl
+finals_unless false k s = refl
 
-pub finals_asked : (k : ℕ) (s : List ℕ) (a : Asked) → next_of s ≡ asked a
-    → finals_within (suc k) s ≡ 1 + finals_within (if closes a k then 0 else k) (drop a.len s)
+pub finals_whole : (k : ℕ) (s : List ℕ) (a : Asked) (len : ℕ) → turn_of s ≡ whole a len
+    → finals_within (suc k) s ≡ 1 + finals_within (if closes a k then 0 else k) (drop len s)
 unfolding finals_within finals_at
-finals_asked k s a is = rw is (ap (λ (n : ℕ). 1 + n) (finals_left (closes a k) k (drop a.len s)))
+finals_whole k s a len is = rw is (ap (λ (n : ℕ). 1 + n) (finals_unless (closes a k) k (drop len s)))
 
-closed_left : (b : Bool) (k : ℕ) (s : List ℕ) → (if b then true else closed_within k s) ≡ closed_within (if b then 0 else k) s
+closed_unless : (b : Bool) (k : ℕ) (s : List ℕ) → (if b then true else closed_within k s) ≡ closed_within (if b then 0 else k) s
 unfolding closed_within
-closed_left true k s = refl
-closed_left false k s = refl
+closed_unless true k s = refl
+closed_unless false k s = refl
 
-pub closed_asked : (k : ℕ) (s : List ℕ) (a : Asked) → next_of s ≡ asked a
-    → closed_within (suc k) s ≡ closed_within (if closes a k then 0 else k) (drop a.len s)
+pub closed_whole : (k : ℕ) (s : List ℕ) (a : Asked) (len : ℕ) → turn_of s ≡ whole a len
+    → closed_within (suc k) s ≡ closed_within (if closes a k then 0 else k) (drop len s)
 unfolding closed_within closed_at
-closed_asked k s a is = rw is (closed_left (closes a k) k (drop a.len s))
+closed_whole k s a len is = rw is (closed_unless (closes a k) k (drop len s))
 
-rest_left : (b : Bool) (k : ℕ) (s : List ℕ) → (if b then s else rest_within k s) ≡ rest_within (if b then 0 else k) s
+rest_unless : (b : Bool) (k : ℕ) (s : List ℕ) → (if b then s else rest_within k s) ≡ rest_within (if b then 0 else k) s
 unfolding rest_within
-rest_left true k s = refl
-rest_left false k s = refl
+rest_unless true k s = refl
+rest_unless false k s = refl
 
-pub rest_asked : (k : ℕ) (s : List ℕ) (a : Asked) → next_of s ≡ asked a
-    → rest_within (suc k) s ≡ rest_within (if closes a k then 0 else k) (drop a.len s)
+pub rest_whole : (k : ℕ) (s : List ℕ) (a : Asked) (len : ℕ) → turn_of s ≡ whole a len
+    → rest_within (suc k) s ≡ rest_within (if closes a k then 0 else k) (drop len s)
 unfolding rest_within rest_at
-rest_asked k s a is = rw is (rest_left (closes a k) k (drop a.len s))
+rest_whole k s a len is = rw is (rest_unless (closes a k) k (drop len s))
 
--- what was judged calls for a final answer
-pub finals_some : (k : ℕ) (s : List ℕ) (a : Asked) → 0 < k → next_of s ≡ asked a → 0 < finals_within k s
-finals_some zero s a some is = absurd (omega (arith, some))
-finals_some (suc k) s a some is = omega (arith, finals_asked k s a is)
+-- a whole request calls for a final answer
+pub finals_some : (k : ℕ) (s : List ℕ) (a : Asked) (len : ℕ) → 0 < k → turn_of s ≡ whole a len → 0 < finals_within k s
+finals_some zero s a len some is = absurd (omega (arith, some))
+finals_some (suc k) s a len some is = omega (arith, finals_whole k s a len is)

@@ -1,14 +1,68 @@
 -- The answers grow with the bytes and with the moments.
-use Rattle.std.proofs.Common.{◌≡◌, ℕ, zero, suc, Bool, true, false, List, [], ◌∷◌, ◌++◌, drop, refl, sym, ap, ◌∙◌, append_assoc, append-nil}
+use Rattle.std.proofs.Common.{◌≡◌, ◌≢◌, ℕ, zero, suc, ◌+◌, ◌≤◌, Bool, true, false, List, [], ◌∷◌, ◌++◌, length, drop, refl, sym, ap, ◌∙◌, subst, append_assoc, append-nil, arith, length-drop}
 use Rattle.std.specs.Prelude.{if◌then◌else◌}
 use Rattle.std.proofs.lemmas.List.{drop-append-le}
-use Rattle.warp_request.specs.Verdict.{Verdict, more, refused, asked}
+use Rattle.warp_request.specs.Body.{BodyVerdict, body_of}
+use Rattle.warp_request.specs.Body as body
 use Rattle.warp_request.specs.Next.{next_of}
+use Rattle.warp_request.specs.Verdict.{Verdict, more, Asked}
+use Rattle.warp_request.specs.Verdict as head
+use Rattle.warp_request.proofs.BodyGrowthLemmas.{body_stays, body_within}
 use Rattle.warp_request.proofs.GrowthLemmas.{next_stays}
-use Rattle.warp_response.specs.Text.{answer_text}
+use Rattle.warp_response.specs.Text.{answer_text, refusal_text}
 use Rattle.conn_loop.specs.Answers.{BeginsWith, closes, last_word, answers_at, answers_within}
 use Rattle.conn_loop.specs.Replying.{Replying}
+use Rattle.conn_loop.specs.Turns.{Turn, unfinished, refused, whole, turn_of, turn_by_body, interim_of}
+use Rattle.conn_loop.proofs.AnswerLemmas.{turn_is, turn_asked, turn_more, interim_is}
 use Rattle.conn_loop.proofs.VerdictLemmas.{within_of}
+
+-- ---- what bytes begin with stays, whatever follows
+
+-- a body that is settled, behind a head
+body_turn : (s t : List ℕ) (a : Asked) (v : BodyVerdict) → next_of s ≡ head.asked a → body_of a.framing (drop a.len s) ≡ v → v ≢ body.more
+    → turn_of (s ++ t) ≡ turn_by_body a v
+body_turn s t a v is says settled =
+    turn_asked (s ++ t) a v (next_stays s t (head.asked a) is (λ e. cc))
+    (ap (λ (u : List ℕ). body_of a.framing u) (drop-append-le a.len s t (within_of s a is)) ∙ body_stays a.framing (drop a.len s) t v says settled)
+
+turn_behind : (s t : List ℕ) (a : Asked) (v : BodyVerdict) → next_of s ≡ head.asked a → body_of a.framing (drop a.len s) ≡ v → turn_by_body a v ≢ unfinished
+    → turn_of (s ++ t) ≡ turn_of s
+turn_behind s t a body.more is says settled = absurd (settled refl)
+turn_behind s t a (body.refused code) is says settled = body_turn s t a (body.refused code) is says (λ e. cc) ∙ sym (turn_asked s a (body.refused code) is says)
+turn_behind s t a (body.whole n) is says settled = body_turn s t a (body.whole n) is says (λ e. cc) ∙ sym (turn_asked s a (body.whole n) is says)
+
+turn_by : (s t : List ℕ) (v : Verdict) → next_of s ≡ v → turn_of s ≢ unfinished → turn_of (s ++ t) ≡ turn_of s
+turn_by s t head.more is settled = absurd (settled (turn_more s is))
+turn_by s t (head.refused code) is settled = turn_is (s ++ t) (head.refused code) (next_stays s t (head.refused code) is (λ e. cc)) ∙ sym (turn_is s (head.refused code) is)
+turn_by s t (head.asked a) is settled =
+    turn_behind s t a (body_of a.framing (drop a.len s)) is refl
+    (λ e. settled (turn_asked s a (body_of a.framing (drop a.len s)) is refl ∙ e))
+
+-- what is settled of a request stays, whatever bytes follow
+pub turn_stays : (s t : List ℕ) → turn_of s ≢ unfinished → turn_of (s ++ t) ≡ turn_of s
+turn_stays s t settled = turn_by s t (next_of s) refl settled
+
+-- ---- a whole request lies in the bytes
+
+body_long : (s : List ℕ) (a b : Asked) (len : ℕ) (v : BodyVerdict) → next_of s ≡ head.asked a → body_of a.framing (drop a.len s) ≡ v
+    → turn_by_body a v ≡ whole b len → len ≤ length s
+body_long s a b len body.more is says same = cc
+body_long s a b len (body.refused code) is says same = cc
+body_long s a b len (body.whole n) is says same =
+    let long : a.len + n ≡ len = cc in
+    omega (arith, long, body_within a.framing (drop a.len s) n says, length-drop a.len s, within_of s a is)
+
+long_by : (s : List ℕ) (b : Asked) (len : ℕ) (v : Verdict) → next_of s ≡ v → turn_of s ≡ whole b len → len ≤ length s
+long_by s b len head.more is same = let none = sym (turn_more s is) ∙ same in cc
+long_by s b len (head.refused code) is same = let none = sym (turn_is s (head.refused code) is) ∙ same in cc
+long_by s b len (head.asked a) is same =
+    let v = body_of a.framing (drop a.len s) in
+    body_long s a b len v is refl (sym (turn_asked s a v is refl) ∙ same)
+
+pub turn_long : (s : List ℕ) (b : Asked) (len : ℕ) → turn_of s ≡ whole b len → len ≤ length s
+turn_long s b len same = long_by s b len (next_of s) refl same
+
+-- ---- the answers
 
 begins_behind : (text a b : List ℕ) → BeginsWith a b → BeginsWith (text ++ a) (text ++ b)
 begins_behind text a b x = (x.0, ap (λ (t : List ℕ). text ++ t) x.1 ∙ sym (append_assoc text b x.0))
@@ -17,20 +71,42 @@ begins_unless : (closed : Bool) (a b : List ℕ) → BeginsWith a b → BeginsWi
 begins_unless true a b x = ([], refl)
 begins_unless false a b x = x
 
-at_verdict : (reply : Replying) (k : ℕ) (s t : List ℕ) (m : ℕ) (ms ks : List ℕ) (v : Verdict) → next_of s ≡ v
-    → ((len : ℕ) → BeginsWith (answers_within reply k (drop len s ++ t) (ms ++ ks)) (answers_within reply k (drop len s) ms))
-    → BeginsWith (answers_at reply (next_of (s ++ t)) k m (λ len. answers_within reply k (drop len (s ++ t)) (ms ++ ks)))
-    (answers_at reply v k m (λ len. answers_within reply k (drop len s) ms))
+begins_same : (a : List ℕ) → BeginsWith a a
+begins_same a = ([], sym (append-nil a))
+
+at_turn : (reply : Replying) (k : ℕ) (s t ms ks : List ℕ) (v : Turn) → turn_of s ≡ v
+    → ((len : ℕ) (m : ℕ) (later : List ℕ) → BeginsWith (answers_within reply k (drop len s ++ t) (later ++ ks)) (answers_within reply k (drop len s) later))
+    → BeginsWith (answers_at reply (turn_of (s ++ t)) k (ms ++ ks) (λ len later. answers_within reply k (drop len (s ++ t)) later))
+    (answers_at reply v k ms (λ len later. answers_within reply k (drop len s) later))
 unfolding answers_at
-at_verdict reply k s t m ms ks more is again = (_, refl)
-at_verdict reply k s t m ms ks (refused code) is again = rw (next_stays s t (refused code) is (λ e. cc)) ([], sym (append-nil _))
-at_verdict reply k s t m ms ks (asked a) is again =
-    rw (next_stays s t (asked a) is (λ e. cc), drop-append-le a.len s t (within_of s a is))
-    (begins_behind (answer_text (reply a) m (last_word a k)) _ _ (begins_unless (closes a k) _ _ (again a.len)))
+at_turn reply k s t ms ks unfinished is again = (_, refl)
+at_turn reply k s t [] ks (refused code) is again = (_, refl)
+at_turn reply k s t (m ∷ ms) ks (refused code) is again = rw (turn_stays s t (λ e. let not = sym is ∙ e in cc), is) (begins_same (refusal_text code m))
+at_turn reply k s t [] ks (whole a len) is again = (_, refl)
+at_turn reply k s t (m ∷ ms) ks (whole a len) is again =
+    rw (turn_stays s t (λ e. let not = sym is ∙ e in cc), is, drop-append-le len s t (turn_long s a len is))
+    (begins_behind (answer_text (reply a) m (last_word a k)) _ _ (begins_unless (closes a k) _ _ (again len m ms)))
+
+-- the interim answer stays
+interim_stays : (s t : List ℕ) (v : Verdict) → next_of s ≡ v → v ≢ more → interim_of (s ++ t) ≡ interim_of s
+interim_stays s t v is settled = interim_is (s ++ t) v (next_stays s t v is settled) ∙ sym (interim_is s v is)
+
+begins_turn : (a b c d : List ℕ) → a ≡ b → BeginsWith c d → BeginsWith (a ++ c) (b ++ d)
+begins_turn a b c d same x = subst (λ (t : List ℕ). BeginsWith (t ++ c) (b ++ d)) (sym same) (begins_behind b c d x)
+
+at_head : (reply : Replying) (k : ℕ) (s t ms ks : List ℕ) (v : Verdict) → next_of s ≡ v
+    → ((len : ℕ) (m : ℕ) (later : List ℕ) → BeginsWith (answers_within reply k (drop len s ++ t) (later ++ ks)) (answers_within reply k (drop len s) later))
+    → BeginsWith (interim_of (s ++ t) ++ answers_at reply (turn_of (s ++ t)) k (ms ++ ks) (λ len later. answers_within reply k (drop len (s ++ t)) later))
+    (interim_of s ++ answers_at reply (turn_of s) k ms (λ len later. answers_within reply k (drop len s) later))
+unfolding answers_at
+at_head reply k s t ms ks head.more is again = rw (interim_is s more is, turn_more s is) (_, refl)
+at_head reply k s t ms ks (head.refused code) is again =
+    begins_turn _ _ _ _ (interim_stays s t (head.refused code) is (λ e. cc)) (at_turn reply k s t ms ks (turn_of s) refl again)
+at_head reply k s t ms ks (head.asked a) is again =
+    begins_turn _ _ _ _ (interim_stays s t (head.asked a) is (λ e. cc)) (at_turn reply k s t ms ks (turn_of s) refl again)
 
 -- where the bytes and the moments go on, so do the answers
 pub answers_grow : (reply : Replying) (k : ℕ) (s t ms ks : List ℕ) → BeginsWith (answers_within reply k (s ++ t) (ms ++ ks)) (answers_within reply k s ms)
 unfolding answers_within
 answers_grow reply zero s t ms ks = ([], refl)
-answers_grow reply (suc k) s t [] ks = (_, refl)
-answers_grow reply (suc k) s t (m ∷ ms) ks = at_verdict reply k s t m ms ks (next_of s) refl (λ len. answers_grow reply k (drop len s) t ms ks)
+answers_grow reply (suc k) s t ms ks = at_head reply k s t ms ks (next_of s) refl (λ len m later. answers_grow reply k (drop len s) t later ks)

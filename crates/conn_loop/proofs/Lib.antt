@@ -1,8 +1,11 @@
 pub mod AnswerLemmas
+pub mod BodyLemmas
+pub mod BoundLemmas
 pub mod GrowthLemmas
 pub mod LookLemmas
 pub mod ReplyLemmas
 pub mod StandingLemmas
+pub mod StatusLemmas
 pub mod StepLemmas
 pub mod ToldLemmas
 pub mod VerdictLemmas

@@ -15,16 +15,16 @@ use Rattle.conn_loop.specs.Heads.{asked_in}
 use Rattle.conn_loop.specs.Replies.{IsAnswerOf}
 use Rattle.conn_loop.specs.Replying.{request_of, replies_of, replying}
 use Rattle.conn_loop.specs.Moves.{Refuses}
+use Rattle.conn_loop.specs.Stages.{unread}
 use Rattle.conn_loop.specs.Standing.{Standing}
 
 -- after a refusal
-pub refused_is : (inside old : Standing) (pending moments text : List ℕ) (full : Bool) (code m : ℕ) → inside ≡ old → old.over ≡ None
+pub refused_is : (inside old : Standing) (pending moments text : List ℕ) (full : Bool) (code m : ℕ) → inside ≡ old
     → pending ≡ inside.pending ++ text → text ≡ refusal_text code m → moments ≡ inside.moments ++ m ∷ []
-    → Refuses code m old (record { input = inside.input; pending = pending; full = full; moments = moments; left = 0; over = None })
-refused_is inside old pending moments text full code m was runs behind answers noted =
-    let over : inside.over ≡ None = ap (λ (s : Standing). s.over) was ∙ runs in
+    → Refuses code m old (record inside { pending = pending; full = full; moments = moments; left = 0 })
+refused_is inside old pending moments text full code m was behind answers noted =
     let put : pending ≡ inside.pending ++ refusal_text code m = behind ∙ ap (λ (t : List ℕ). inside.pending ++ t) answers in
-    (λ i. record { input = inside.input; pending = put i; full = full; moments = noted i; left = 0; over = sym over i })
+    (λ i. record inside { pending = put i; full = full; moments = noted i; left = 0 })
     ∙ ap (λ (s : Standing). record s { pending = s.pending ++ refusal_text code m; full = full; moments = s.moments ++ m ∷ []; left = 0 }) was
 
 -- the application saw the request that the head makes
@@ -46,9 +46,9 @@ replied_for moves (Some f) request a left target answer text m last asks says pu
 -- after an answer
 pub answered_is : (inside old : Standing) (input pending moments text : List ℕ) (full : Bool) (len m left next : ℕ) → inside ≡ old → old.over ≡ None
     → input ≡ drop len inside.input → pending ≡ inside.pending ++ text → moments ≡ inside.moments ++ m ∷ [] → left ≡ next
-    → ◌≡◌ {A = Standing} (record { input = input; pending = pending; full = full; moments = moments; left = left; over = None })
-    (record { input = drop len old.input; pending = old.pending ++ text; full = full; moments = old.moments ++ m ∷ []; left = next; over = old.over })
+    → ◌≡◌ {A = Standing} (record { input = input; stage = unread; pending = pending; full = full; moments = moments; left = left; over = None })
+    (record { input = drop len old.input; stage = unread; pending = old.pending ++ text; full = full; moments = old.moments ++ m ∷ []; left = next; over = old.over })
 answered_is inside old input pending moments text full len m left next was runs skipped put noted counted =
     let over : inside.over ≡ None = ap (λ (s : Standing). s.over) was ∙ runs in
-    (λ i. record { input = skipped i; pending = put i; full = full; moments = noted i; left = counted i; over = sym over i })
-    ∙ ap (λ (s : Standing). record { input = drop len s.input; pending = s.pending ++ text; full = full; moments = s.moments ++ m ∷ []; left = next; over = s.over }) was
+    (λ i. record { input = skipped i; stage = unread; pending = put i; full = full; moments = noted i; left = counted i; over = sym over i })
+    ∙ ap (λ (s : Standing). record { input = drop len s.input; stage = unread; pending = s.pending ++ text; full = full; moments = s.moments ++ m ∷ []; left = next; over = s.over }) was

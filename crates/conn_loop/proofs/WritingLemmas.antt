@@ -5,7 +5,7 @@ use Rattle.std.proofs.Common.{Bool, true, false, ◌∷◌, ◌≡◌, ◌≢◌
 use Rattle.std.proofs.lemmas.List.{take_rest, take-append-drop, drop_all}
 use Rattle.std.proofs.Math.Seq.{take-add}
 use Rattle.outside.specs.Counts.{Counts}
-use Rattle.conn_loop.specs.Outgoing.{Outgoing, pending_of, is_held}
+use Rattle.conn_loop.specs.Outgoing.{Outgoing, pending_of, is_held, is_crowded, is_full}
 use Rattle.conn_loop.specs.declared.writing.WriteEnd.{WriteEnd}
 use Rattle.conn_loop.specs.declared.writing.WriteEnd.TheVariants.{All, Waits, Fails}
 use Rattle.conn_loop.specs.Writing.{Writes, Leaves, CountsWrites, CountsWait}
@@ -179,6 +179,10 @@ held_gone : (o : Outgoing) → is_held o ≡ false → o.head ++ o.content ≡ [
 held_gone o is =
     let parts = either_none (nat_lt 0 (length o.head)) (nat_lt 0 (length o.content)) is in
     rw (nothing_of o.head (zero_of (length o.head) parts.0), nothing_of o.content (zero_of (length o.content) parts.1)) refl
+
+-- where there is room for an answer, nothing stands beside
+pub full_held : (o : Outgoing) → is_full o ≡ false → is_held o ≡ false
+full_held o is = let parts = either_none (is_held o) (is_crowded o) is in parts.0
 
 -- where nothing stood beside, an answer that was held and then gathered stands behind all
 pub put_behind : (old held new : Outgoing) (content : List ℕ) → is_held old ≡ false → held ≡ record { gathered = old.gathered; head = held.head; content = content }

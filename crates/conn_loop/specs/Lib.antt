@@ -6,6 +6,8 @@ pub mod Outgoing
 pub mod Phases
 pub mod Replies
 pub mod Replying
+pub mod Stages
 pub mod Standing
 pub mod Steps
+pub mod Turns
 pub mod Writing

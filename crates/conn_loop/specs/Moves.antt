@@ -12,6 +12,7 @@ use Rattle.conn_loop.specs.declared.answered.Answered.{Answered}
 use Rattle.conn_loop.specs.declared.answered.Answered.TheVariants as answers
 use Rattle.conn_loop.specs.Answers.{closes, last_word}
 use Rattle.conn_loop.specs.Replying.{Replying}
+use Rattle.conn_loop.specs.Stages.{unread, ready}
 use Rattle.conn_loop.specs.Standing.{Standing}
 use Rattle.conn_loop.specs.Writing.{Leaves}
 
@@ -52,13 +53,17 @@ Refuses code moment old new =
     new ≡ record old { pending = old.pending ++ refusal_text code moment; full = new.full; moments = old.moments ++ moment ∷ []; left = 0 }
 
 -- a request is answered at a moment
-pub record Responds (reply : Option Replying) (a : Asked) (moment : ℕ) (old new : Standing) : Type 0 where
+pub record Responds (reply : Option Replying) (moment : ℕ) (old new : Standing) : Type 0 where
+  pub a : Asked
+  pub behind : ℕ
+  pub was : old.stage ≡ ready a behind
   pub left : ℕ
   pub counted : old.left ≡ 1 + left
   pub text : List ℕ
   pub replied : IfSome reply (λ r. text ≡ answer_text (r a) moment (last_word a left))
   pub same : new ≡ record {
-    input = drop a.len old.input;
+    input = drop (a.len + behind) old.input;
+    stage = unread;
     pending = old.pending ++ text;
     full = new.full;
     moments = old.moments ++ moment ∷ [];
@@ -67,10 +72,10 @@ pub record Responds (reply : Option Replying) (a : Asked) (moment : ℕ) (old ne
   }
 
 -- a request was answered, at the moment that the clock gave; else nothing is changed, and the clock wasn't asked
-abbrev pub AnswersTo : Answered → Option Replying → Asked → Standing → Standing → (given later : Option (List ℕ)) → Type 0
-AnswersTo answers.Made reply a old new given later = (moment : ℕ) × Responds reply a moment old new × Gains given later (moment ∷ [])
-AnswersTo answers.Failed reply a old new given later = (new ≡ old) × (later ≡ given)
-AnswersTo answers.NoMemory reply a old new given later = (new ≡ old) × (later ≡ given)
+abbrev pub AnswersTo : Answered → Option Replying → Standing → Standing → (given later : Option (List ℕ)) → Type 0
+AnswersTo answers.Made reply old new given later = (moment : ℕ) × Responds reply moment old new × Gains given later (moment ∷ [])
+AnswersTo answers.Failed reply old new given later = (new ≡ old) × (later ≡ given)
+AnswersTo answers.NoMemory reply old new given later = (new ≡ old) × (later ≡ given)
 
 -- the files failed only where their count of faults rose, and it never falls
 abbrev pub AnswerFaults : Answered → ℕ → ℕ → Type 0

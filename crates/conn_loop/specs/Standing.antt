@@ -5,13 +5,16 @@ use Rattle.conn_loop.specs.declared.step.Step.{Step}
 use Rattle.conn_loop.specs.declared.step.Step.TheVariants.{WantRead, WantWrite, Done}
 use Rattle.conn_loop.specs.declared.step.End.{End}
 use Rattle.conn_loop.specs.declared.step.End.TheVariants.{Clean, Cut, ReadFault, WriteFault, FileFault, NoMemory}
-use Rattle.conn_loop.specs.Answers.{limit, answers_of, answers_within, finals_of, finals_within, closed_within, rest_of, rest_within, IsClosed, IsOpen}
+use Rattle.conn_loop.specs.Answers.{limit, answers_of, finals_of, finals_within, closed_within, rest_of, rest_within, IsClosed, IsOpen}
 use Rattle.conn_loop.specs.Replying.{Replying}
+use Rattle.conn_loop.specs.Stages.{Stage, unread, LiesAhead, answers_left}
 
 -- what a connection holds
 pub record Standing : Type 0 where
-  -- bytes that were read and aren't answered
+  -- bytes that were read and aren't answered, but for those of a body that were passed over
   pub input : List ℕ
+  -- where it stands with the request at their front
+  pub stage : Stage
   -- answers that aren't written
   pub pending : List ℕ
   -- whether these must be written before another answer is made
@@ -25,7 +28,7 @@ pub record Standing : Type 0 where
 
 -- a connection that has read nothing and written nothing
 abbrev pub at_first : Standing
-at_first = record { input = []; pending = []; full = false; moments = []; left = limit; over = None }
+at_first = record { input = []; stage = unread; pending = []; full = false; moments = []; left = limit; over = None }
 
 -- every answer that is due at these moments was sent, and a moment was asked for each
 pub record IsWhole (reply : Replying) (moments taken sent : List ℕ) : Type 0 where
@@ -60,13 +63,17 @@ Says (Done FileFault) reply moments taken sent ended = (length moments < finals_
 Says (Done NoMemory) reply moments taken sent ended = (length moments < finals_of taken) × GoesOn ended
 
 -- What was taken is accounted for: whatever bytes and moments follow, the answers to all of it are what was sent, what is
--- to be written, and the answers to what isn't answered.
+-- to be written, and the answers to the bytes ahead, which aren't answered.
 pub record Accounts (reply : Replying) (c : Standing) (taken sent : List ℕ) : Type 0 where
+  pub ahead : List ℕ
+  -- whether the interim answer to the first request among them was given, if one is due
+  pub given : Bool
+  pub lies : LiesAhead c.stage given c.input ahead
   pub answered : (more later : List ℕ)
-      → answers_of reply (taken ++ more) (c.moments ++ later) ≡ (sent ++ c.pending) ++ answers_within reply c.left (c.input ++ more) later
-  pub counted : (more : List ℕ) → finals_of (taken ++ more) ≡ length c.moments + finals_within c.left (c.input ++ more)
-  pub closing : (more : List ℕ) → closed_within limit (taken ++ more) ≡ closed_within c.left (c.input ++ more)
-  pub resting : (more : List ℕ) → rest_of (taken ++ more) ≡ rest_within c.left (c.input ++ more)
+      → answers_of reply (taken ++ more) (c.moments ++ later) ≡ (sent ++ c.pending) ++ answers_left given reply c.left (ahead ++ more) later
+  pub counted : (more : List ℕ) → finals_of (taken ++ more) ≡ length c.moments + finals_within c.left (ahead ++ more)
+  pub closing : (more : List ℕ) → closed_within limit (taken ++ more) ≡ closed_within c.left (ahead ++ more)
+  pub resting : (more : List ℕ) → rest_of (taken ++ more) ≡ rest_within c.left (ahead ++ more)
 
 -- the link goes on, or the step that was answered says so
 abbrev pub IsAt : Option Step → Replying → (moments taken sent : List ℕ) → Option Bool → Type 0

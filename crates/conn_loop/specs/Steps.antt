@@ -1,11 +1,13 @@
 -- How far a part of a call brings a connection: it goes on, or a step is answered.
-use Rattle.std.specs.Prelude.{◌≡◌, ℕ, ◌<◌, ◌≤◌, List, Bool, Option, Some, None, IfSome}
+use Rattle.std.specs.Prelude.{◌≡◌, ℕ, ◌+◌, ◌*◌, ◌<◌, ◌≤◌, List, Bool, Option, Some, None, IfSome}
 use Rattle.outside.specs.Counts.{Counts}
 use Rattle.conn_loop.specs.declared.step.Step.{Step}
-use Rattle.conn_loop.specs.declared.step.Step.TheVariants.{Done}
+use Rattle.conn_loop.specs.declared.step.Step.TheVariants.{WantRead, WantWrite, Done}
+use Rattle.outside.specs.declared.link.ReadOut.{ReadOut}
+use Rattle.outside.specs.declared.link.ReadOut.TheVariants as read
+use Rattle.conn_loop.specs.Stages.{Stage, finished, body_steps, grown, steps_left, IsReadyStage}
 use Rattle.conn_loop.specs.declared.step.End.{End}
 use Rattle.conn_loop.specs.declared.step.End.TheVariants.{Clean, Cut, ReadFault, WriteFault, FileFault, NoMemory}
-use Rattle.conn_loop.specs.Answers.{finals_within}
 use Rattle.conn_loop.specs.Causes.{HasFault, CountsWaits}
 use Rattle.conn_loop.specs.Replying.{Replying}
 use Rattle.conn_loop.specs.Standing.{Standing, Accounts, IsAt, Told}
@@ -31,14 +33,22 @@ pub record Goes (result : Option Step) (faults faulted waits waited : Counts) : 
   pub cause : IfSome result (λ step. HasFault step faults faulted 0 0)
   pub counts : CountsFor result waits waited
 
+-- the same, over files whose count of faults never falls either
+pub record GoesOver (result : Option Step) (faults faulted waits waited : Counts) (files later : ℕ) : Type 0 where
+  pub reads : faults.reads ≤ faulted.reads
+  pub writes : faults.writes ≤ faulted.writes
+  pub files_later : files ≤ later
+  pub cause : IfSome result (λ step. HasFault step faults faulted files later)
+  pub counts : CountsFor result waits waited
+
 -- how a connection may end once its answers are written
 abbrev pub MayEnd : End → Standing → Type 0
 MayEnd Clean c = c.left ≡ 0
 MayEnd Cut c = ⊥
 MayEnd ReadFault c = ⊥
 MayEnd WriteFault c = ⊥
-MayEnd FileFault c = 0 < finals_within c.left c.input
-MayEnd NoMemory c = 0 < finals_within c.left c.input
+MayEnd FileFault c = (0 < c.left) × IsReadyStage c.stage
+MayEnd NoMemory c = (0 < c.left) × IsReadyStage c.stage
 
 -- it ends so, or a step comes that its link is the cause of
 pub record EndsWith (end : End) (result : Step) (faults faulted waits waited : Counts) : Type 0 where
@@ -46,3 +56,20 @@ pub record EndsWith (end : End) (result : Step) (faults faulted waits waited : C
   pub writes : faults.writes ≤ faulted.writes
   pub cause : (files later : ℕ) → HasFault (Done end) faults faulted files later → HasFault result faults faulted files later
   pub counts : CountsWaits result waits waited
+
+-- how many steps are left until the connection closes, at most
+abbrev pub to_go : Standing → ℕ
+to_go c = c.left * (2 * body_steps) + steps_left c.stage c.input
+
+-- where the connection stands once a step was answered
+abbrev pub stage_kept : Step → Stage → Stage
+stage_kept WantRead stage = stage
+stage_kept WantWrite stage = stage
+stage_kept (Done end) stage = finished
+
+-- where it stands behind a read
+abbrev pub stage_after : ReadOut → Stage → Stage
+stage_after (read.Got n) stage = grown stage
+stage_after read.End stage = stage
+stage_after read.NotYet stage = stage
+stage_after read.Failed stage = stage

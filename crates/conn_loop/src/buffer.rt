@@ -65,6 +65,17 @@ impl Buffer {
         self.end = end;
     }
 
+    /// Forgets all but the first `n` bytes, which move to the front of the room: what is read behind them has the rest of
+    /// it. The caller owes that there are so many.
+    pub(crate) fn keep(&mut self, n: usize)
+        requires { n ≤ length self.old }
+        ensures { self.new ≡ take n self.old }
+    {
+        let start = make_room(&mut self.room, self.start, self.start + n, ROOM - n);
+        self.start = start;
+        self.end = start + n;
+    }
+
     /// Puts a piece behind the bytes. The caller owes that it fits.
     pub(crate) fn add(&mut self, piece: &[u8])
         requires { length self.old + length piece.now ≤ ROOM }

@@ -7,6 +7,7 @@
 #![tactic(auto)]
 
 mod answered;
+mod bodies;
 mod buffer;
 mod conn;
 mod laws;

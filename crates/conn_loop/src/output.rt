@@ -5,7 +5,8 @@ ghost use Rattle.std.specs.Prelude.{◌≡◌, ◌≤◌, ◌++◌, Bool, false,
 ghost use Rattle.std.specs.Bool.{OnTrue};
 ghost use Rattle.warp_response.specs.Head.{head_text};
 ghost use Rattle.warp_response.specs.Reply.{Reply, head_of, IsResponseFor, IsSendable};
-ghost use Rattle.conn_loop.specs.Outgoing.{Outgoing, nothing, pending_of, is_held, Puts};
+ghost use Rattle.warp_response.specs.Text.{interim_text};
+ghost use Rattle.conn_loop.specs.Outgoing.{Outgoing, nothing, pending_of, is_held, is_full as is_full_of, Puts};
 ghost use Rattle.conn_loop.specs.Writing.{Writes, CountsWrites};
 
 use crate::buffer::{Buffer, ROOM};
@@ -13,7 +14,7 @@ use crate::writing::{WriteEnd, write_out};
 use outside::Link;
 use std::alloc::{AllocError, Global};
 use std::marker::Model;
-use warp_response::{HeadBuf, LastWord, Response, head_bytes};
+use warp_response::{HeadBuf, LastWord, Response, head_bytes, interim};
 
 /// The bytes to be written: those gathered, then what `head` and `content` have from `head_at` and `content_at` on.
 #[derive(Drop)]
@@ -54,9 +55,24 @@ impl Output {
 
     /// Whether what is to be written must leave before another answer comes.
     pub(crate) fn is_full(&self) -> bool
+        ensures { result ≡ is_full_of self.now }
+    {
+        self.is_held() || ROOM - self.gathered.bytes().len() < interim().len()
+    }
+
+    /// Whether something stands beside what is gathered.
+    fn is_held(&self) -> bool
         ensures { result ≡ is_held self.now }
     {
         self.head_at < self.head.bytes().len() || self.content_at < self.content.len()
+    }
+
+    /// Puts the interim answer behind what is to be written.
+    pub(crate) fn put_interim(&mut self)
+        requires { is_full_of self.old ≡ false }
+        ensures { pending_of self.new ≡ pending_of self.old ++ interim_text }
+    {
+        self.gathered.add(interim());
     }
 
     /// Puts an answer behind what is to be written. The caller owes a response that can be sent, and its content.
@@ -68,7 +84,7 @@ impl Output {
         target: &[u8],
         content: Vec<u8>,
     )
-        requires room { is_held self.old ≡ false }
+        requires room { is_full_of self.old ≡ false }
         requires sendable { IsSendable target.now response.now }
         ensures { Puts target.now response.now moment last content.items self.old self.new }
     {

@@ -3,6 +3,8 @@ ghost use Rattle.std.specs.Prelude.{◌≡◌, IfOk};
 ghost use Rattle.outside.specs.MemFolder.{folder_in};
 ghost use Rattle.outside.specs.ReadScript.{EachFilled};
 
+mod bodies;
+
 use crate::run_connection;
 use outside::{MemClock, MemFile, MemFiles, MemSink, PieceLink, Place, ReadEvent, WriteEvent};
 use std::alloc::{AllocError, Global};

@@ -116,7 +116,8 @@ digits_many line u b d all some full =
     let over : nat_lt 8 (prefix_len is_hex s) ≡ true = grind (arith, nat_tests) in
     ap (λ (c : Bool). cond c (wrong BAD_REQUEST) (behind_digits (take (prefix_len is_hex s) s) (drop (prefix_len is_hex s) s))) over
 
-digits_nil : (digits : List ℕ) → behind_digits digits [] ≡ cut
+-- digits that nothing follows yet are waited for
+pub digits_nil : (digits : List ℕ) → behind_digits digits [] ≡ cut
 unfolding behind_digits
 digits_nil [] = refl
 digits_nil (d ∷ digits) = refl

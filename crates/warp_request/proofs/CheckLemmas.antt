@@ -4,10 +4,11 @@ use Rattle.std.specs.List.{list_all}
 use Rattle.std.proofs.lemmas.Bool.Decides.{nat_tests}
 use Rattle.warp_request.specs.declared.limits.TheConstants.{FIELD_LIMIT}
 use Rattle.warp_request.specs.declared.status.TheConstants.{BAD_REQUEST, FIELDS_TOO_LARGE}
-use Rattle.warp_request.specs.declared.names.TheConstants.{CONNECTION}
-use Rattle.warp_request.specs.declared.verdict.Framing.TheVariants as framings
+use Rattle.warp_request.specs.declared.names.TheConstants.{CONNECTION, EXPECT}
+use Rattle.warp_request.specs.declared.verdict.Framing.{Framing}
 use Rattle.warp_request.specs.Fields.{values_of, stays_open}
-use Rattle.warp_request.specs.Checks.{Parts, first_fault, field_checks, verdict_by, checked}
+use Rattle.warp_request.specs.Checks.{Parts, first_fault, field_checks, framing_by, verdict_by, checked}
+use Rattle.warp_request.specs.Content.{waits_for_interim}
 use Rattle.warp_request.specs.Target.{is_visible, is_target_form}
 use Rattle.warp_request.specs.Verdict.{refused, asked}
 
@@ -35,8 +36,8 @@ pub by_fields : (p : Parts) (fault : Option ℕ) → length p.fields ≤ FIELD_L
 unfolding checked
 by_fields p fault small visible form found = rw (few (length p.fields) small, visible, form, found) refl
 
--- what is asked, where the connection's fate is known
-pub shows_asked : (p : Parts) (keeps : Bool) → keeps ≡ stays_open p.minor (values_of CONNECTION.now p.fields)
-    → asked (record { method = p.method; target = p.target; minor = p.minor; len = p.len; framing = framings.None; keeps = keeps; interim = false })
-    ≡ verdict_by None p
-shows_asked p keeps is = rw is refl
+-- what is asked, where the connection's fate and the framing are known
+pub shows_asked : (p : Parts) (framing : Framing) (keeps interim : Bool) → framing_by p.fields ≡ framing → keeps ≡ stays_open p.minor (values_of CONNECTION.now p.fields)
+    → interim ≡ waits_for_interim p.minor (values_of EXPECT.now p.fields) framing
+    → asked (record { method = p.method; target = p.target; minor = p.minor; len = p.len; framing = framing; keeps = keeps; interim = interim }) ≡ verdict_by None p
+shows_asked p framing keeps interim framed kept waits = rw (framed, kept, waits) refl

@@ -1,14 +1,14 @@
 -- The checks that a head has to pass, in their order.
-use Rattle.std.specs.Prelude.{ℕ, Bool, false, not, ◌||◌, List, [], ◌∷◌, length, map, if◌then◌else◌, nat_lt, Option, Some, None}
-use Rattle.std.specs.List.{list_all, list_any}
-use Rattle.std.specs.Str.{str_eq_ignore_ascii_case}
+use Rattle.std.specs.Prelude.{ℕ, Bool, not, ◌&&◌, ◌==◌, List, [], ◌∷◌, ◌++◌, length, map, if◌then◌else◌, nat_lt, Option, Some, None}
+use Rattle.std.specs.List.{list_all}
 use Rattle.httparse.specs.Grammar.{RequestHead, print_request}
 use Rattle.httparse.specs.Spans.{name_and_value}
-use Rattle.warp_request.specs.declared.limits.TheConstants.{FIELD_LIMIT}
+use Rattle.warp_request.specs.declared.limits.TheConstants.{BODY_LIMIT, FIELD_LIMIT}
 use Rattle.warp_request.specs.declared.names.TheConstants.{HOST, CONNECTION, TRANSFER_ENCODING, CONTENT_LENGTH, EXPECT}
-use Rattle.warp_request.specs.declared.status.TheConstants.{BAD_REQUEST, FIELDS_TOO_LARGE, NOT_IMPLEMENTED}
-use Rattle.warp_request.specs.declared.verdict.Framing.TheVariants as framings
-use Rattle.warp_request.specs.Fields.{values_of, is_host_fault, stays_open}
+use Rattle.warp_request.specs.declared.status.TheConstants.{BAD_REQUEST, CONTENT_TOO_LARGE, EXPECTATION_FAILED, FIELDS_TOO_LARGE, NOT_IMPLEMENTED}
+use Rattle.warp_request.specs.declared.verdict.Framing.{Framing}
+use Rattle.warp_request.specs.Content.{codings_of, ends_in_chunked, framing_of, has_other_coding, is_expect_fault, is_length_fault, is_there, length_in, waits_for_interim}
+use Rattle.warp_request.specs.Fields.{members_of, values_of, is_host_fault, stays_open}
 use Rattle.warp_request.specs.Target.{is_visible, is_target_form}
 use Rattle.warp_request.specs.Verdict.{Verdict, refused, asked}
 
@@ -34,16 +34,6 @@ abbrev pub first_fault : List (Bool × ℕ) → Option ℕ
 first_fault [] = None
 first_fault (check ∷ checks) = if check.0 then Some check.1 else first_fault checks
 
--- a name whose meaning isn't read yet
-abbrev pub is_unread : List ℕ → Bool
-is_unread name =
-    str_eq_ignore_ascii_case name TRANSFER_ENCODING.now || str_eq_ignore_ascii_case name CONTENT_LENGTH.now
-    || str_eq_ignore_ascii_case name EXPECT.now
-
--- a line of such a name is there
-unfoldable pub has_unread_line : List (List ℕ × List ℕ) → Bool
-has_unread_line fields = list_any (λ f. is_unread f.0) fields
-
 -- the faults of the request line and of the number of fields
 abbrev pub line_checks : Parts → List (Bool × ℕ) → List (Bool × ℕ)
 line_checks p more_checks =
@@ -52,16 +42,31 @@ line_checks p more_checks =
     ∷ (not (is_target_form p.method p.target), BAD_REQUEST)
     ∷ more_checks
 
+-- the faults of the lines that delimit the content, by the values of Transfer-Encoding and Content-Length
+abbrev pub framing_checks : ℕ → List (List ℕ) → List (List ℕ) → List (Bool × ℕ)
+framing_checks minor codings lengths =
+    (is_there codings && minor == 0, BAD_REQUEST)
+    ∷ (is_there codings && is_there lengths, BAD_REQUEST)
+    ∷ (is_there codings && not (ends_in_chunked (codings_of codings)), BAD_REQUEST)
+    ∷ (has_other_coding (codings_of codings), NOT_IMPLEMENTED)
+    ∷ (is_length_fault (members_of lengths), BAD_REQUEST)
+    ∷ (nat_lt BODY_LIMIT (length_in (members_of lengths)), CONTENT_TOO_LARGE)
+    ∷ []
+
 -- the faults of the fields
 abbrev pub field_checks : ℕ → List (List ℕ × List ℕ) → List (Bool × ℕ)
 field_checks minor fields =
     (is_host_fault minor (values_of HOST.now fields), BAD_REQUEST)
-    ∷ (has_unread_line fields, NOT_IMPLEMENTED)
-    ∷ []
+    ∷ (framing_checks minor (values_of TRANSFER_ENCODING.now fields) (values_of CONTENT_LENGTH.now fields)
+    ++ (is_expect_fault minor (values_of EXPECT.now fields), EXPECTATION_FAILED) ∷ [])
 
 -- all faults with their statuses, in order
 abbrev pub checks : Parts → List (Bool × ℕ)
 checks p = line_checks p (field_checks p.minor p.fields)
+
+-- the framing that the fields say
+abbrev pub framing_by : List (List ℕ × List ℕ) → Framing
+framing_by fields = framing_of (values_of TRANSFER_ENCODING.now fields) (values_of CONTENT_LENGTH.now fields)
 
 -- the verdict on a head in which this fault was found
 abbrev pub verdict_by : Option ℕ → Parts → Verdict
@@ -71,9 +76,9 @@ verdict_by None p = asked (record {
   target = p.target;
   minor = p.minor;
   len = p.len;
-  framing = framings.None;
+  framing = framing_by p.fields;
   keeps = stays_open p.minor (values_of CONNECTION.now p.fields);
-  interim = false;
+  interim = waits_for_interim p.minor (values_of EXPECT.now p.fields) (framing_by p.fields);
 })
 
 -- the verdict on a head

@@ -1,6 +1,8 @@
 pub mod Body
+pub mod BodyLaws
 pub mod BodyReader
 pub mod Checks
+pub mod Content
 pub mod Decide
 pub mod Fields
 pub mod Laws

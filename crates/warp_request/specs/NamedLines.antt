@@ -1,13 +1,24 @@
 -- What the lines of each name say together, as the code keeps it.
-use Rattle.std.specs.Prelude.{ℕ, ◌||◌, List, [], ◌∷◌, if◌then◌else◌}
+use Rattle.std.specs.Prelude.{ℕ, Bool, true, false, ◌||◌, List, [], ◌∷◌, Option, Some, None, Result, Ok, Err, bytes_eq, fold, length, if◌then◌else◌, ◌==◌, nat_lt}
 use Rattle.std.specs.List.{list_all}
+use Rattle.warp_request.specs.declared.coding.CodingLines.{CodingLines}
+use Rattle.warp_request.specs.declared.coding.CodingLines.TheVariants as codings
 use Rattle.warp_request.specs.declared.connection.ConnectionLines.{ConnectionLines}
+use Rattle.warp_request.specs.declared.expect.ExpectLines.{ExpectLines}
+use Rattle.warp_request.specs.declared.expect.ExpectLines.TheVariants as expects
 use Rattle.warp_request.specs.declared.fields.NamedLines.{NamedLines}
 use Rattle.warp_request.specs.declared.host.HostLines.{HostLines}
 use Rattle.warp_request.specs.declared.host.HostLines.TheVariants.{Absent, Right, Wrong}
-use Rattle.warp_request.specs.declared.names.TheConstants.{HOST, CONNECTION, CLOSE, KEEP_ALIVE}
-use Rattle.warp_request.specs.Checks.{has_unread_line}
-use Rattle.warp_request.specs.Fields.{values_of, has_member, has_word, is_host_byte}
+use Rattle.warp_request.specs.declared.length.LengthLines.{LengthLines}
+use Rattle.warp_request.specs.declared.length.LengthLines.TheVariants as lengths
+use Rattle.warp_request.specs.declared.limits.TheConstants.{BODY_LIMIT}
+use Rattle.warp_request.specs.declared.names.TheConstants.{HOST, CONNECTION, TRANSFER_ENCODING, CONTENT_LENGTH, EXPECT, CLOSE, KEEP_ALIVE}
+use Rattle.warp_request.specs.declared.status.TheConstants.{BAD_REQUEST, CONTENT_TOO_LARGE, NOT_IMPLEMENTED}
+use Rattle.warp_request.specs.declared.verdict.Framing.{Framing}
+use Rattle.warp_request.specs.declared.verdict.Framing.TheVariants as framings
+use Rattle.warp_request.specs.Checks.{field_checks, first_fault, framing_by}
+use Rattle.warp_request.specs.Content.{decimal_of, is_chunked, is_continue, is_numeral}
+use Rattle.warp_request.specs.Fields.{values_of, has_member, has_word, is_host_byte, members_in}
 
 -- what Host lines with these values say
 unfoldable pub host_lines : List (List ℕ) → HostLines
@@ -35,10 +46,141 @@ connection_with lines value = record {
   keep_alive = lines.keep_alive || has_word KEEP_ALIVE.now value;
 }
 
+-- Transfer-Encoding lines behind the beginning of one more
+abbrev pub opened : CodingLines → CodingLines
+opened codings.Absent = codings.Empty
+opened lines = lines
+
+-- behind one more coding, of which it is known whether it is `chunked`
+abbrev pub coding_behind : Bool → CodingLines → CodingLines
+coding_behind chunked codings.Absent = if chunked then codings.Chunked else codings.Others
+coding_behind chunked codings.Empty = if chunked then codings.Chunked else codings.Others
+coding_behind chunked codings.Others = if chunked then codings.OthersChunked else codings.Others
+coding_behind chunked _ = codings.Wrong
+
+-- with one more member of the list
+abbrev pub coding_with : CodingLines → List ℕ → CodingLines
+coding_with lines member = if length member == 0 then lines else coding_behind (is_chunked member) lines
+
+-- with one more line
+abbrev pub codings_with : CodingLines → List ℕ → CodingLines
+codings_with lines value = fold coding_with (opened lines) (members_in value)
+
+-- what Transfer-Encoding lines with these values say
+unfoldable pub coding_lines : List (List ℕ) → CodingLines
+coding_lines values = fold codings_with codings.Absent values
+
+-- what Content-Length lines say: nothing, one number by its digits, or something wrong
+pub data Lengths : Type 0 where
+  absent : Lengths
+  number : List ℕ → Lengths
+  wrong : Lengths
+
+abbrev pub lengths_shown : LengthLines → Lengths
+lengths_shown lengths.Absent = absent
+lengths_shown (lengths.Number digits) = number digits.now
+lengths_shown lengths.Wrong = wrong
+
+-- the digits from the first that is no zero
+unfoldable pub skip_zeros : List ℕ → List ℕ
+skip_zeros [] = []
+skip_zeros (d ∷ digits) = if d == 48 then skip_zeros digits else d ∷ digits
+
+-- with one more number
+abbrev pub number_behind : Lengths → List ℕ → Lengths
+number_behind absent digits = number digits
+number_behind (number first) digits = if bytes_eq first digits then number first else wrong
+number_behind wrong digits = wrong
+
+-- with one more member of the list
+abbrev pub length_with : Lengths → List ℕ → Lengths
+length_with lines member = if is_numeral member then number_behind lines (skip_zeros member) else wrong
+
+-- with one more line
+abbrev pub lengths_with : Lengths → List ℕ → Lengths
+lengths_with lines value = fold length_with lines (members_in value)
+
+-- what Content-Length lines with these values say
+unfoldable pub length_lines : List (List ℕ) → Lengths
+length_lines values = fold lengths_with absent values
+
+-- with one more line
+abbrev pub expect_with : ExpectLines → List ℕ → ExpectLines
+expect_with expects.Other value = expects.Other
+expect_with _ value = if is_continue value then expects.Continue else expects.Other
+
+-- what Expect lines with these values say
+unfoldable pub expect_lines : List (List ℕ) → ExpectLines
+expect_lines [] = expects.Absent
+expect_lines (value ∷ values) = if list_all is_continue (value ∷ values) then expects.Continue else expects.Other
+
+-- something other than `100-continue` is expected
+abbrev pub expects_other : ExpectLines → Bool
+expects_other expects.Other = true
+expects_other _ = false
+
+-- something is expected
+abbrev pub expects_some : ExpectLines → Bool
+expects_some expects.Absent = false
+expects_some _ = true
+
 -- what the fields say, name by name
-unfoldable pub named_lines : List (List ℕ × List ℕ) → NamedLines
+pub record Named : Type 0 where
+  pub host : HostLines
+  pub connection : ConnectionLines
+  pub codings : CodingLines
+  pub lengths : Lengths
+  pub expect : ExpectLines
+
+abbrev pub lines_shown : NamedLines → Named
+lines_shown lines = record {
+  host = lines.host;
+  connection = lines.connection;
+  codings = lines.codings;
+  lengths = lengths_shown lines.lengths;
+  expect = lines.expect;
+}
+
+unfoldable pub named_lines : List (List ℕ × List ℕ) → Named
 named_lines fields = record {
   host = host_lines (values_of HOST.now fields);
   connection = connection_lines (values_of CONNECTION.now fields);
-  has_unread = has_unread_line fields;
+  codings = coding_lines (values_of TRANSFER_ENCODING.now fields);
+  lengths = length_lines (values_of CONTENT_LENGTH.now fields);
+  expect = expect_lines (values_of EXPECT.now fields);
 }
+
+-- the framing, or the status of the fault that was found
+abbrev pub decided : Option ℕ → Framing → Result Framing ℕ
+decided (Some code) framing = Err code
+decided None framing = Ok framing
+
+-- what the fields of a head of this minor version say of its content
+unfoldable pub fields_say : ℕ → List (List ℕ × List ℕ) → Result Framing ℕ
+fields_say minor fields = decided (first_fault (field_checks minor fields)) (framing_by fields)
+
+-- no Content-Length line is there
+abbrev pub is_absent : Lengths → Bool
+is_absent absent = true
+is_absent _ = false
+
+-- the framing that a number says, within the limit
+abbrev pub framing_within : ℕ → Result Framing ℕ
+framing_within n = if nat_lt BODY_LIMIT n then Err CONTENT_TOO_LARGE else Ok (framings.Length n)
+
+-- the framing where no Transfer-Encoding line is there
+abbrev pub framing_by_length : Lengths → Result Framing ℕ
+framing_by_length absent = Ok framings.None
+framing_by_length (number digits) = framing_within (decimal_of digits)
+framing_by_length wrong = Err BAD_REQUEST
+
+-- the framing where Transfer-Encoding lines of this kind are there, and no other length
+abbrev pub framing_by_codings : CodingLines → Result Framing ℕ
+framing_by_codings codings.Chunked = Ok framings.Chunked
+framing_by_codings codings.OthersChunked = Err NOT_IMPLEMENTED
+framing_by_codings _ = Err BAD_REQUEST
+
+-- the framing in a head of this minor version
+abbrev pub framing_said : ℕ → CodingLines → Lengths → Result Framing ℕ
+framing_said minor codings.Absent lengths = framing_by_length lengths
+framing_said minor lines lengths = if minor == 0 then Err BAD_REQUEST else (if is_absent lengths then framing_by_codings lines else Err BAD_REQUEST)

@@ -8,7 +8,7 @@ use crate::fields::NamedLines;
 use crate::limits::FIELD_LIMIT;
 use crate::status::{BAD_REQUEST, FIELDS_TOO_LARGE};
 use crate::target::{is_target_form, is_visible};
-use crate::verdict::{Framing, HeadInfo, Next};
+use crate::verdict::{HeadInfo, Next};
 use httparse::spans::{HeaderSpan, RequestSpans};
 
 /// The verdict on a head whose fields are the first `head.headers` of `spans`.
@@ -28,16 +28,16 @@ pub(crate) fn checked(bytes: &[u8], spans: &[HeaderSpan], head: RequestSpans) ->
         return Next::Refuse(BAD_REQUEST);
     }
     let lines = NamedLines::read(bytes, &spans[..head.headers]);
-    match lines.fault(head.version) {
-        Some(code) => Next::Refuse(code),
-        None => Next::Head(HeadInfo {
+    match lines.framing(head.version) {
+        Err(code) => Next::Refuse(code),
+        Ok(framing) => Next::Head(HeadInfo {
             method: head.method,
             target: head.path,
             minor: head.version,
             head_len: head.len,
-            framing: Framing::None,
+            framing,
             keeps: lines.connection.stays_open(head.version),
-            interim: false,
+            interim: lines.expect.waits(head.version, framing),
         }),
     }
 }

@@ -1,39 +1,47 @@
 // The fields that decide about a request, read in one pass.
 ghost use Rattle.std.specs.Prelude.{◌≡◌, ℕ, List, [], ◌∷◌, ◌++◌, length, map, All};
 ghost use Rattle.httparse.specs.Spans.{header_bytes, IsHeaderWithin};
-ghost use Rattle.warp_request.specs.Checks.{first_fault, field_checks, is_unread as is_unread_name};
-ghost use Rattle.warp_request.specs.NamedLines.{named_lines};
+ghost use Rattle.warp_request.specs.NamedLines.{fields_say, lines_shown, named_lines};
 
+use crate::coding::CodingLines;
 use crate::connection::ConnectionLines;
+use crate::expect::ExpectLines;
+use crate::framing::framing;
 use crate::host::HostLines;
-use crate::names::{CONNECTION, CONTENT_LENGTH, EXPECT, TRANSFER_ENCODING};
-use crate::status::{BAD_REQUEST, NOT_IMPLEMENTED};
-use crate::values::is_same_word;
+use crate::length::LengthLines;
+use crate::status::{BAD_REQUEST, EXPECTATION_FAILED};
+use crate::verdict::Framing;
 use httparse::spans::HeaderSpan;
 
 /// What the lines of each name say.
 #[derive(Clone, Copy)]
-pub(crate) struct NamedLines {
+pub(crate) struct NamedLines<'a> {
     pub host: HostLines,
     pub connection: ConnectionLines,
-    /// There is a line of a name that isn't read yet.
-    pub has_unread: bool,
+    pub codings: CodingLines,
+    pub lengths: LengthLines<'a>,
+    pub expect: ExpectLines,
 }
 
-impl NamedLines {
+/// What no line says.
+const NO_LINES: NamedLines<'static> = NamedLines {
+    host: HostLines::Absent,
+    connection: ConnectionLines {
+        close: false,
+        keep_alive: false,
+    },
+    codings: CodingLines::Absent,
+    lengths: LengthLines::Absent,
+    expect: ExpectLines::Absent,
+};
+
+impl<'a> NamedLines<'a> {
     /// Reads the fields, whose spans lie in `bytes`.
-    pub(crate) fn read(bytes: &[u8], fields: &[HeaderSpan]) -> NamedLines
+    pub(crate) fn read(bytes: &'a [u8], fields: &[HeaderSpan]) -> NamedLines<'a>
         requires { All (IsHeaderWithin (length bytes.now)) fields.now }
-        ensures { result ≡ named_lines (map (header_bytes bytes.now) fields.now) }
+        ensures { lines_shown result ≡ named_lines (map (header_bytes bytes.now) fields.now) }
     {
-        let mut lines = NamedLines {
-            host: HostLines::Absent,
-            connection: ConnectionLines {
-                close: false,
-                keep_alive: false,
-            },
-            has_unread: false,
-        };
+        let mut lines = NO_LINES;
         for field in fields {
             lines = lines.with(field.name.of(bytes), field.value.of(bytes));
         }
@@ -41,37 +49,32 @@ impl NamedLines {
     }
 
     /// With one more field.
-    fn with(self, name: &[u8], value: &[u8]) -> NamedLines
-        ensures { (fields : List (List ℕ × List ℕ)) → self ≡ named_lines fields
-            → result ≡ named_lines (fields ++ (name.now, value.now) ∷ []) }
+    fn with(self, name: &[u8], value: &'a [u8]) -> NamedLines<'a>
+        ensures { (fields : List (List ℕ × List ℕ)) → lines_shown self.entry ≡ named_lines fields
+            → lines_shown result ≡ named_lines (fields ++ (name.now, value.now) ∷ []) }
     {
         NamedLines {
             host: self.host.with(name, value),
             connection: self.connection.with(name, value),
-            has_unread: self.has_unread || is_unread(name),
+            codings: self.codings.with(name, value),
+            lengths: self.lengths.with(name, value),
+            expect: self.expect.with(name, value),
         }
     }
 
-    /// The status of the first fault in the fields of a head of this minor version.
-    pub(crate) fn fault(self, minor: u8) -> Option<u16>
-        ensures { (fields : List (List ℕ × List ℕ)) → self ≡ named_lines fields
-            → result ≡ first_fault (field_checks minor fields) }
+    /// How the content is delimited, or the status of the first fault in the fields of a head of this minor version.
+    pub(crate) fn framing(self, minor: u8) -> Result<Framing, u16>
+        ensures { (fields : List (List ℕ × List ℕ)) → lines_shown self.entry ≡ named_lines fields
+            → result ≡ fields_say minor fields }
     {
         if self.host.is_fault(minor) {
-            Some(BAD_REQUEST)
-        } else if self.has_unread {
-            Some(NOT_IMPLEMENTED)
-        } else {
-            None
+            return Err(BAD_REQUEST);
+        }
+        let expects_other = self.expect.is_fault(minor);
+        match framing(minor, self.codings, self.lengths) {
+            Err(code) => Err(code),
+            Ok(_) if expects_other => Err(EXPECTATION_FAILED),
+            Ok(framing) => Ok(framing),
         }
     }
-}
-
-/// Whether the name's meaning isn't read yet.
-fn is_unread(name: &[u8]) -> bool
-    ensures { result ≡ is_unread_name name.now }
-{
-    is_same_word(name, TRANSFER_ENCODING)
-        || is_same_word(name, CONTENT_LENGTH)
-        || is_same_word(name, EXPECT)
 }

@@ -1,16 +1,23 @@
 //! What the bytes after the last whole request begin with: the head of a request, something to be
-//! refused, or too little to say. Heads are read where they lie; nothing is copied or allocated.
+//! refused, or too little to say; and how many of the bytes behind a head are its body. Heads are read where
+//! they lie, bodies piece by piece; nothing is copied or allocated.
 //!
-//! The promise: `next` answers exactly what the definition `next_of` says of the same bytes.
+//! The promise: `next` answers exactly what the definition `next_of` says of the same bytes, and after any pieces
+//! a `BodyReader` stands where the definition `body_of` says of all of them.
 #![tactic(auto)]
 
 mod body_place;
 mod body_reader;
 mod checks;
+mod coding;
 mod connection;
+mod expect;
 mod fields;
+mod framing;
 mod heads;
 mod host;
+mod laws;
+mod length;
 mod limits;
 mod lines;
 mod names;
@@ -25,6 +32,7 @@ mod verdict;
 pub use body_place::{CHUNK_DIGITS, CHUNK_LINE_LIMIT, TRAILER_LIMIT};
 pub use body_reader::{BodyReader, BodyState, Fed};
 pub use heads::next;
+pub use laws::{a_settled_body_stays, a_settled_head_stays, lists_join_their_lines};
 pub use limits::{BODY_LIMIT, FIELD_LIMIT, FIELD_ROOM, HEAD_LIMIT};
 pub use lines::is_blank;
 pub use scratch::Scratch;

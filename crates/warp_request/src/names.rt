@@ -15,3 +15,9 @@ pub(crate) const EXPECT: &[u8] = b"expect";
 pub(crate) const CLOSE: &[u8] = b"close";
 
 pub(crate) const KEEP_ALIVE: &[u8] = b"keep-alive";
+
+/// The only transfer coding that there is (RFC 9112, section 7.1).
+pub(crate) const CHUNKED: &[u8] = b"chunked";
+
+/// The only expectation that there is (RFC 9110, section 10.1.1).
+pub(crate) const CONTINUE: &[u8] = b"100-continue";

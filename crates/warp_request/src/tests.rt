@@ -376,26 +376,21 @@ fn a_connection_stays_open_by_its_version_and_its_words(rt: HostRuntime) -> Resu
     )
 }
 
-const WHAT_IS_NOT_READ_YET_IS_REFUSED_LAST: [Row; 5] = [
+const HOST_IS_JUDGED_BEFORE_THE_FRAMING: [Row; 4] = [
     (
-        "Transfer-Encoding",
-        b"POST / HTTP/1.1\r\nHost: a\r\nTransfer-Encoding: chunked\r\n\r\n",
-        Next::Refuse(NOT_IMPLEMENTED),
-    ),
-    (
-        "content-length",
-        b"POST / HTTP/1.1\r\nHost: a\r\ncontent-length: 5\r\n\r\n",
-        Next::Refuse(NOT_IMPLEMENTED),
-    ),
-    (
-        "EXPECT",
-        b"POST / HTTP/1.1\r\nHost: a\r\nEXPECT: 100-continue\r\n\r\n",
-        Next::Refuse(NOT_IMPLEMENTED),
-    ),
-    (
-        "a length and no Host",
-        b"POST / HTTP/1.1\r\nContent-Length: 5\r\n\r\n",
+        "no Host, and content that is too long",
+        b"POST / HTTP/1.1\r\nContent-Length: 1048577\r\n\r\n",
         Next::Refuse(BAD_REQUEST),
+    ),
+    (
+        "two Host lines, and a coding that nobody knows",
+        b"POST / HTTP/1.1\r\nHost: a\r\nHost: a\r\nTransfer-Encoding: x, chunked\r\n\r\n",
+        Next::Refuse(BAD_REQUEST),
+    ),
+    (
+        "one Host line, and a coding that nobody knows",
+        b"POST / HTTP/1.1\r\nHost: a\r\nTransfer-Encoding: x, chunked\r\n\r\n",
+        Next::Refuse(NOT_IMPLEMENTED),
     ),
     (
         "a longer name",
@@ -405,8 +400,8 @@ const WHAT_IS_NOT_READ_YET_IS_REFUSED_LAST: [Row; 5] = [
 ];
 
 #[test]
-fn what_is_not_read_yet_is_refused_last(rt: HostRuntime) -> Result<(), Fail> {
-    check(&rt, rt.alloc(), &WHAT_IS_NOT_READ_YET_IS_REFUSED_LAST)
+fn host_is_judged_before_the_framing(rt: HostRuntime) -> Result<(), Fail> {
+    check(&rt, rt.alloc(), &HOST_IS_JUDGED_BEFORE_THE_FRAMING)
 }
 
 /// The front, as many letters `a`, and the end.

@@ -190,21 +190,77 @@ fn lines_and_trailers_have_their_limits(rt: HostRuntime) -> Result<(), Fail> {
 }
 
 #[test]
+fn the_sizes_of_all_chunks_have_a_limit(rt: HostRuntime) -> Result<(), Fail> {
+    let half = padded(rt.alloc(), b"80000\r\n", 524_288, b"\r\n")?;
+    assert_eq!(rt;
+        read(
+            Framing::Chunked,
+            &[half.as_slice(), b"80000\r\n".as_slice()]
+        ),
+        (524_304, BodyState::More)
+    );
+    assert_eq!(rt;
+        read(
+            Framing::Chunked,
+            &[half.as_slice(), b"80001\r\n".as_slice()]
+        ),
+        (524_304, BodyState::Refuse(413))
+    );
+    Ok(())
+}
+
+#[test]
+fn a_length_of_the_limit_is_read_whole(rt: HostRuntime) -> Result<(), Fail> {
+    let half = padded(rt.alloc(), b"", 524_288, b"")?;
+    assert_eq!(rt;
+        read(
+            Framing::Length(1_048_576),
+            &[half.as_slice(), half.as_slice(), b"GET".as_slice()]
+        ),
+        (1_048_576, BodyState::Whole)
+    );
+    Ok(())
+}
+
+#[test]
 fn a_body_may_be_cut_anywhere(rt: HostRuntime) {
-    let body = b"5;a=b\r\nhello\r\n1\r\n!\r\n0\r\nT: 1\r\n\r\n".as_slice();
-    for at in 0..=body.len() {
-        let (front, back) = body.split_at(at);
-        assert_eq!(rt;
-            read(Framing::Chunked, &[front, back]),
-            (body.len(), BodyState::Whole),
-            "{at}"
-        );
-        let (front, back) = body[..5].split_at(at.min(5));
-        assert_eq!(rt;
-            read(Framing::Length(5), &[front, back]),
-            (5, BodyState::Whole),
-            "{at}"
-        );
+    for (framing, body, used, state) in [
+        (
+            Framing::Chunked,
+            b"5;a=b\r\nhello\r\n1\r\n!\r\n0\r\nT: 1\r\n\r\nGET /".as_slice(),
+            31,
+            BodyState::Whole,
+        ),
+        (
+            Framing::Chunked,
+            b"5\r\nhello\r\n0\r\nT: 1\r\n".as_slice(),
+            19,
+            BodyState::More,
+        ),
+        (
+            Framing::Chunked,
+            b"5\r\nhello\r\n0\r\nT\0 1\r\n\r\n".as_slice(),
+            15,
+            BodyState::Refuse(400),
+        ),
+        (
+            Framing::Chunked,
+            b"1\r\n!\r\n100000;a\r\nhello".as_slice(),
+            16,
+            BodyState::Refuse(413),
+        ),
+        (
+            Framing::Length(5),
+            b"hello GET".as_slice(),
+            5,
+            BodyState::Whole,
+        ),
+    ] {
+        for at in 0..=body.len() {
+            let (front, back) = body.split_at(at);
+            assert_eq!(rt; read(framing, &[front, back]), (used, state), "{at}");
+        }
+        assert_eq!(rt; read(framing, &[body]), (used, state));
     }
 }
 

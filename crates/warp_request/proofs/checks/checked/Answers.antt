@@ -5,12 +5,14 @@ use Rattle.httparse.specs.Spans.{header_bytes}
 use Rattle.httparse.specs.declared.spans.HeaderSpan.{HeaderSpan}
 use Rattle.httparse.specs.declared.spans.RequestSpans.{RequestSpans}
 use Rattle.warp_request.specs.declared.limits.TheConstants.{FIELD_LIMIT}
-use Rattle.warp_request.specs.declared.names.TheConstants.{CONNECTION}
+use Rattle.warp_request.specs.declared.names.TheConstants.{CONNECTION, EXPECT}
+use Rattle.warp_request.specs.Content.{waits_for_interim}
 use Rattle.warp_request.specs.Fields.{values_of, stays_open}
 use Rattle.warp_request.specs.Target.{is_visible}
 use Rattle.warp_request.specs.Shown.{parts_shown}
 use Rattle.warp_request.proofs.CheckLemmas.{too_many_fields, hidden_target, wrong_form, by_fields, shows_asked}
-use Rattle.warp_request.proofs.NamedLemmas.{connection_is}
+use Rattle.warp_request.proofs.FramingLemmas.{fault_of, framing_is}
+use Rattle.warp_request.proofs.NamedLemmas.{connection_is, expect_is}
 use Rattle.warp_request.proofs.checks.checked.Goals as goal
 
 -- the spans show no more fields than the head has
@@ -33,20 +35,26 @@ returns-then-not-is_target_form-clause-is c =
     (ap (list_all is_visible) (sym c.of-target.ensures) ∙ sym c.is_visible.ensures ∙ c.if-not-is_visible.false)
     (rw (sym c.of.ensures, sym c.of-target.ensures) (sym c.is_target_form.ensures ∙ c.if-not-is_target_form.true)))
 
-pub returns-in-Some-clause-is : goal.returns-in-Some-clause-is
-returns-in-Some-clause-is c =
-    sym (by_fields (parts_shown c.args.bytes.now c.args.spans.now c.args.head) (Some c.in-Some.code) (few c.args.bytes.now c.args.spans.now c.args.head c.if-head-gt-FIELD_LIMIT.false)
+pub returns-in-Err-clause-is : goal.returns-in-Err-clause-is
+returns-in-Err-clause-is c =
+    let parts = parts_shown c.args.bytes.now c.args.spans.now c.args.head in
+    let says = sym (c.framing.ensures parts.fields c.read-lines.ensures) ∙ c.in-Err.is in
+    sym (by_fields parts (Some c.in-Err.code) (few c.args.bytes.now c.args.spans.now c.args.head c.if-head-gt-FIELD_LIMIT.false)
     (ap (list_all is_visible) (sym c.of-target.ensures) ∙ sym c.is_visible.ensures ∙ c.if-not-is_visible.false)
     (rw (sym c.of.ensures, sym c.of-target.ensures) (sym c.is_target_form.ensures ∙ c.if-not-is_target_form.false))
-    (sym (c.fault.ensures (parts_shown c.args.bytes.now c.args.spans.now c.args.head).fields c.read-lines.ensures) ∙ c.in-Some.is))
+    (fault_of c.args.head.version parts.fields c.in-Err.code says))
 
-pub returns-in-None-clause-is : goal.returns-in-None-clause-is
-returns-in-None-clause-is c =
+pub returns-in-Ok-clause-is : goal.returns-in-Ok-clause-is
+returns-in-Ok-clause-is c =
     let parts = parts_shown c.args.bytes.now c.args.spans.now c.args.head in
+    let lines = c.read-lines.result in
+    let framing = c.in-Ok.framing in
+    let says = framing_is c.args.head.version parts.fields framing (sym (c.framing.ensures parts.fields c.read-lines.ensures) ∙ c.in-Ok.is) in
     let keeps : c.stays_open.result ≡ stays_open parts.minor (values_of CONNECTION.now parts.fields) =
-    c.stays_open.ensures (values_of CONNECTION.now parts.fields) (connection_is c.read-lines.result parts.fields c.read-lines.ensures) in
-    shows_asked parts c.stays_open.result keeps
+    c.stays_open.ensures (values_of CONNECTION.now parts.fields) (connection_is lines parts.fields c.read-lines.ensures) in
+    let interim : c.waits.result ≡ waits_for_interim parts.minor (values_of EXPECT.now parts.fields) framing =
+    c.waits.ensures (values_of EXPECT.now parts.fields) (expect_is lines parts.fields c.read-lines.ensures) in
+    shows_asked parts framing c.stays_open.result c.waits.result says.1 keeps interim
     ∙ sym (by_fields parts None (few c.args.bytes.now c.args.spans.now c.args.head c.if-head-gt-FIELD_LIMIT.false)
     (ap (list_all is_visible) (sym c.of-target.ensures) ∙ sym c.is_visible.ensures ∙ c.if-not-is_visible.false)
-    (rw (sym c.of.ensures, sym c.of-target.ensures) (sym c.is_target_form.ensures ∙ c.if-not-is_target_form.false))
-    (sym (c.fault.ensures parts.fields c.read-lines.ensures) ∙ c.in-None.is))
+    (rw (sym c.of.ensures, sym c.of-target.ensures) (sym c.is_target_form.ensures ∙ c.if-not-is_target_form.false)) says.0)

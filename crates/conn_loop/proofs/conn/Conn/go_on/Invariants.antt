@@ -1,7 +1,7 @@
-use Rattle.std.proofs.Common.{◌≡◌, ◌≤◌, ◌-◌, ◌*◌, ◌+◌, length, None}
+use Rattle.std.proofs.Common.{◌≡◌, ◌≤◌, None}
 use Rattle.conn_loop.specs.Causes.{Clocked}
 use Rattle.conn_loop.specs.Replying.{replying}
-use Rattle.conn_loop.specs.Steps.{ComesFor}
+use Rattle.conn_loop.specs.Steps.{ComesFor, to_go}
 use Rattle.conn_loop.proofs.conn.Conn.go_on.Given as goal
 
 abbrev pub invariant-requests : goal.invariant-requests
@@ -20,4 +20,4 @@ invariant-requests g l = record {
 }
 
 abbrev pub decreases-requests : goal.decreases-requests
-decreases-requests g l = l.self.left * 20000 + (16384 - length l.self.input)
+decreases-requests g l = to_go l.self

@@ -1,42 +1,46 @@
-use Rattle.std.proofs.Common.{ap, arith, length, length-append, List, ℕ}
+use Rattle.std.proofs.Common.{ap, arith, length}
 use Rattle.std.proofs.lemmas.Bool.{both_ways}
 use Rattle.conn_loop.specs.declared.step.Step.TheVariants.{WantRead, Done}
 use Rattle.conn_loop.specs.declared.step.End.TheVariants.{Clean, Cut, ReadFault}
 use Rattle.conn_loop.specs.Standing.{Standing}
-use Rattle.conn_loop.proofs.StepLemmas.{idle_of, stop_for}
-use Rattle.conn_loop.proofs.VerdictLemmas.{short_of}
+use Rattle.conn_loop.proofs.StepLemmas.{idle_of, stop_for, got_for, got_nearer, wanting_room}
 use Rattle.conn_loop.proofs.conn.Conn.read_more.Goals as goal
 
 pub fill-requires-clause-room : goal.fill-requires-clause-room
 fill-requires-clause-room g c =
-    omega (arith, short_of c.args.self.now.input c.requires.more, ap (λ (v : Standing). length v.input) c.write_due.ensures.same)
+    omega (arith, wanting_room c.args.self.now.stage c.args.self.now.input c.requires.wanting, ap (λ (v : Standing). length v.input) c.write_due.ensures.same)
 
-pub returns-in-Got-clause-longer : goal.returns-in-Got-clause-longer
-returns-in-Got-clause-longer g c =
-    let takes = c.in-Got.ensures.takes in
-    omega (arith, takes.some, ap (λ (v : List ℕ). length v) takes.grown, length-append c.write_due.new.self.input takes.piece, ap (λ (v : Standing). length v.input) c.write_due.ensures.same)
+pub returns-in-Got-clause-stands : goal.returns-in-Got-clause-stands
+returns-in-Got-clause-stands g c = λ reply x.
+    got_for _ reply c.write_due.new.self c.fill.new.self _ _ _ _ _ _ c.in-Got.ensures.takes c.in-Got.ensures.same c.fill.ensures.sends c.in-Got.ensures.ends
+    (c.in_default.ensures.stands reply x)
+
+pub returns-in-Got-clause-nearer : goal.returns-in-Got-clause-nearer
+returns-in-Got-clause-nearer g c =
+    got_nearer _ c.args.self.now c.write_due.new.self c.fill.new.self _ _ c.write_due.ensures.same c.requires.wanting c.in-Got.ensures.takes c.in-Got.ensures.same
 
 pub returns-in-End-clause-stands : goal.returns-in-End-clause-stands
 returns-in-End-clause-stands g c = λ reply x.
-    stop_for (Done Clean) c.fill.result reply c.write_due.new.self c.fill.new.self _ _ _ _ _ _ (c.in-End.is, c.is_blank.ensures.0 c.if-is_blank.true)
-    (idle_of c.args.self.now c.write_due.new.self c.write_due.ensures.same c.in_default.ensures.done.0 c.requires.some c.requires.more)
+    let between = c.is_between.ensures.0 c.if-is_between.true in
+    stop_for (Done Clean) c.fill.result reply c.write_due.new.self c.fill.new.self _ _ _ _ _ _ (c.in-End.is, between.0, between.1)
+    (idle_of c.args.self.now c.write_due.new.self c.write_due.ensures.same c.in_default.ensures.done.0 c.requires.some c.requires.wanting)
     c.fill.ensures.takes c.fill.ensures.same c.fill.ensures.sends c.fill.ensures.ends (c.in_default.ensures.stands reply x)
 
 pub returns-in-End-2-clause-stands : goal.returns-in-End-2-clause-stands
 returns-in-End-2-clause-stands g c = λ reply x.
     stop_for (Done Cut) c.fill.result reply c.write_due.new.self c.fill.new.self _ _ _ _ _ _
-    (c.in-End-2.is, λ e. both_ways c.is_blank.result c.if-is_blank.false (c.is_blank.ensures.1 e))
-    (idle_of c.args.self.now c.write_due.new.self c.write_due.ensures.same c.in_default.ensures.done.0 c.requires.some c.requires.more)
+    (c.in-End-2.is, λ e. both_ways c.is_between.result c.if-is_between.false (c.is_between.ensures.1 e))
+    (idle_of c.args.self.now c.write_due.new.self c.write_due.ensures.same c.in_default.ensures.done.0 c.requires.some c.requires.wanting)
     c.fill.ensures.takes c.fill.ensures.same c.fill.ensures.sends c.fill.ensures.ends (c.in_default.ensures.stands reply x)
 
 pub returns-in-NotYet-clause-stands : goal.returns-in-NotYet-clause-stands
 returns-in-NotYet-clause-stands g c = λ reply x.
     stop_for WantRead c.fill.result reply c.write_due.new.self c.fill.new.self _ _ _ _ _ _ c.in-NotYet.is
-    (idle_of c.args.self.now c.write_due.new.self c.write_due.ensures.same c.in_default.ensures.done.0 c.requires.some c.requires.more)
+    (idle_of c.args.self.now c.write_due.new.self c.write_due.ensures.same c.in_default.ensures.done.0 c.requires.some c.requires.wanting)
     c.fill.ensures.takes c.fill.ensures.same c.fill.ensures.sends c.fill.ensures.ends (c.in_default.ensures.stands reply x)
 
 pub returns-in-Failed-clause-stands : goal.returns-in-Failed-clause-stands
 returns-in-Failed-clause-stands g c = λ reply x.
     stop_for (Done ReadFault) c.fill.result reply c.write_due.new.self c.fill.new.self _ _ _ _ _ _ c.in-Failed.is
-    (idle_of c.args.self.now c.write_due.new.self c.write_due.ensures.same c.in_default.ensures.done.0 c.requires.some c.requires.more)
+    (idle_of c.args.self.now c.write_due.new.self c.write_due.ensures.same c.in_default.ensures.done.0 c.requires.some c.requires.wanting)
     c.fill.ensures.takes c.fill.ensures.same c.fill.ensures.sends c.fill.ensures.ends (c.in_default.ensures.stands reply x)

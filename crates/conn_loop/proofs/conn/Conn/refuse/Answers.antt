@@ -6,7 +6,7 @@ use Rattle.conn_loop.proofs.conn.Conn.refuse.Goals as goal
 pub returns-clause-refuses : goal.returns-clause-refuses
 returns-clause-refuses g c = (
   c.now-moment.result,
-  refused_is _ c.args.self.now _ _ c.put.ensures.text _ c.args.code c.now-moment.result c.self.view_is c.requires.running c.put.ensures.behind
+  refused_is _ c.args.self.now _ _ c.put.ensures.text _ c.args.code c.now-moment.result c.self.view_is c.put.ensures.behind
       (c.put.ensures.answers (refusal_reply c.args.code) (c.refusal-response.ensures.reply _) (search rules)) c.note.ensures.items,
   c.now-moment.ensures.gives,
 )

@@ -1,16 +1,10 @@
-use Rattle.std.proofs.Common.{◌∙◌, ◌||◌, ap, sym}
-use Rattle.warp_request.specs.Checks.{is_unread}
-use Rattle.warp_request.proofs.NamedLemmas.{host_is, connection_is, unread_is, named_lines-push}
+use Rattle.std.proofs.Common.{◌++◌, ◌∷◌, []}
+use Rattle.warp_request.proofs.NamedLemmas.{codings_are, connection_is, expect_is, host_is, lengths_are, named_by_parts}
 use Rattle.warp_request.proofs.fields.NamedLines.with.Goals as goal
 
-pub returns-then-self : goal.returns-then-self
-returns-then-self c = λ fields is.
-    named_lines-push fields c.args.name.now c.args.value.now _ _ _
-    (c.with.ensures fields (host_is c.args.self fields is)) (c.with-2.ensures fields (connection_is c.args.self fields is))
-    (c.if-self.true ∙ sym (ap (λ b. b || is_unread c.args.name.now) (sym (unread_is c.args.self fields is) ∙ c.if-self.true)))
-
-pub returns-else-self : goal.returns-else-self
-returns-else-self c = λ fields is.
-    named_lines-push fields c.args.name.now c.args.value.now _ _ _
-    (c.with.ensures fields (host_is c.args.self fields is)) (c.with-2.ensures fields (connection_is c.args.self fields is))
-    (c.is_unread.ensures ∙ sym (ap (λ b. b || is_unread c.args.name.now) (sym (unread_is c.args.self fields is) ∙ c.if-self.false)))
+pub returns : goal.returns
+returns c = λ fields is.
+    let lines = c.args.self in
+    named_by_parts _ (fields ++ (c.args.name.now, c.args.value.now) ∷ [])
+    (c.with.ensures fields (host_is lines fields is)) (c.with-2.ensures fields (connection_is lines fields is)) (c.with-3.ensures fields (codings_are lines fields is))
+    (c.with-4.ensures fields (lengths_are lines fields is)) (c.with-5.ensures fields (expect_is lines fields is))

@@ -1,0 +1,133 @@
+-- Where a connection stands with the request at the front of its input, and which bytes aren't answered there.
+use Rattle.std.specs.Prelude.{◌≡◌, ℕ, ◌+◌, ◌*◌, ◌-◌, ◌^◌, ◌≤◌, Bool, true, false, List, ◌++◌, length, take, drop}
+use Rattle.warp_request.specs.declared.body_reader.BodyReader.{BodyReader}
+use Rattle.warp_request.specs.declared.verdict.Framing.{Framing}
+use Rattle.warp_request.specs.declared.verdict.Framing.TheVariants as framings
+use Rattle.warp_request.specs.Body.{body_of}
+use Rattle.warp_request.specs.Body as body
+use Rattle.warp_request.specs.BodyReader.{StandsFor}
+use Rattle.warp_request.specs.Next.{next_of}
+use Rattle.warp_request.specs.Verdict.{Asked, more, asked}
+use Rattle.warp_response.specs.Reply.{Reply}
+use Rattle.warp_request.specs.declared.limits.TheConstants.{HEAD_LIMIT}
+use Rattle.conn_loop.specs.declared.bodies.TheConstants.{CHUNKED_LIMIT}
+use Rattle.conn_loop.specs.declared.buffer.TheConstants.{ROOM}
+use Rattle.conn_loop.specs.Answers.{answers_within, answers_behind}
+use Rattle.conn_loop.specs.Turns.{turn_of}
+use Rattle.conn_loop.specs.Turns as turn
+
+pub data Stage : Type 0 where
+  -- what the input begins with isn't known
+  unread : Stage
+  -- the input is too little to say
+  short : Stage
+  -- the body of the request whose head is at the front of the input is read, and at most so many more bytes are its
+  reading : Asked → BodyReader → ℕ → Stage
+  -- the input is refused
+  refusing : ℕ → Stage
+  -- the request whose head is at the front of the input is whole, with so many bytes of the input behind the head
+  ready : Asked → ℕ → Stage
+  -- the connection is over
+  finished : Stage
+
+-- the answers to bytes of whose first request the interim answer was given, if one is due, or wasn't
+abbrev pub answers_left : (given : Bool) → (Asked → Reply) → ℕ → List ℕ → List ℕ → List ℕ
+answers_left true reply left s moments = answers_behind reply left s moments
+answers_left false reply left s moments = answers_within reply left s moments
+
+-- The unanswered bytes while a body is read: the head at the front of the input, what the reader was fed, which isn't kept,
+-- and the rest of the input.
+pub record IsReading (a : Asked) (reader : BodyReader) (input ahead : List ℕ) : Type 0 where
+  pub fed : List ℕ
+  pub parts : ahead ≡ take a.len input ++ (fed ++ drop a.len input)
+  pub inside : a.len ≤ length input
+  pub stands : StandsFor reader a.framing fed
+  pub goes_on : body_of a.framing fed ≡ body.more
+  pub asks : (t : List ℕ) → next_of (ahead ++ t) ≡ asked a
+
+-- they begin with a whole request, behind which the rest of the input follows
+pub record IsReady (a : Asked) (behind : ℕ) (input ahead : List ℕ) : Type 0 where
+  pub len : ℕ
+  pub inside : a.len + behind ≤ length input
+  pub fits : len ≤ length ahead
+  pub rest : drop len ahead ≡ drop (a.len + behind) input
+  pub is_whole : (t : List ℕ) → turn_of (ahead ++ t) ≡ turn.whole a len
+
+-- these are the bytes that aren't answered, and the interim answer to the first request among them was given or not
+abbrev pub LiesAhead : Stage → (given : Bool) → (input ahead : List ℕ) → Type 0
+LiesAhead unread given input ahead = (given ≡ false) × (ahead ≡ input)
+LiesAhead short given input ahead = (given ≡ false) × (ahead ≡ input) × (next_of input ≡ more)
+LiesAhead (reading a reader room) given input ahead = (given ≡ true) × IsReading a reader input ahead
+LiesAhead (refusing code) given input ahead = (given ≡ true) × ((t : List ℕ) → turn_of (ahead ++ t) ≡ turn.refused code)
+LiesAhead (ready a behind) given input ahead = (given ≡ true) × IsReady a behind input ahead
+LiesAhead finished given input ahead = Unit {0}
+
+-- no body of this framing has more bytes
+abbrev pub most_of : Framing → ℕ
+most_of framings.None = 0
+most_of (framings.Length n) = n
+most_of framings.Chunked = CHUNKED_LIMIT
+
+-- a reader was fed some bytes of a body of this framing, and at most so many more are its
+pub record HasRoom (reader : BodyReader) (framing : Framing) (room : ℕ) : Type 0 where
+  pub fed : List ℕ
+  pub stands : StandsFor reader framing fed
+  pub counted : length fed + room ≡ most_of framing
+
+-- where it stands when more bytes came: what was too little to say is to be judged anew
+abbrev pub grown : Stage → Stage
+grown unread = unread
+grown short = unread
+grown (reading a reader room) = reading a reader room
+grown (refusing code) = refusing code
+grown (ready a behind) = ready a behind
+grown finished = finished
+
+-- no body is read, and no request is about to be answered
+abbrev pub IsBetween : Stage → Type 0
+IsBetween unread = Unit {0}
+IsBetween short = Unit {0}
+IsBetween (reading a reader room) = ⊥
+IsBetween (refusing code) = ⊥
+IsBetween (ready a behind) = ⊥
+IsBetween finished = Unit {0}
+
+-- all of a body that came was read
+abbrev pub IsReadUp : Stage → List ℕ → Type 0
+IsReadUp unread input = Unit {0}
+IsReadUp short input = Unit {0}
+IsReadUp (reading a reader room) input = length input ≡ a.len
+IsReadUp (refusing code) input = Unit {0}
+IsReadUp (ready a behind) input = Unit {0}
+IsReadUp finished input = Unit {0}
+
+-- more bytes are wanted, and there is room for them
+abbrev pub IsWanting : Stage → List ℕ → Type 0
+IsWanting unread input = ⊥
+IsWanting short input = length input ≤ HEAD_LIMIT
+IsWanting (reading a reader room) input = (length input ≤ HEAD_LIMIT) × (length input ≡ a.len)
+IsWanting (refusing code) input = ⊥
+IsWanting (ready a behind) input = ⊥
+IsWanting finished input = ⊥
+
+-- a whole request is to be answered
+abbrev pub IsReadyStage : Stage → Type 0
+IsReadyStage unread = ⊥
+IsReadyStage short = ⊥
+IsReadyStage (reading a reader room) = ⊥
+IsReadyStage (refusing code) = ⊥
+IsReadyStage (ready a behind) = Unit {0}
+IsReadyStage finished = ⊥
+
+-- more steps than any body takes: each of its bytes takes two at most, and it has fewer than 2^64
+abbrev pub body_steps : ℕ
+body_steps = 2 ^ 65 + 2
+
+-- Steps that are left until a request is answered, at most: a bound that each step of a connection makes smaller.
+abbrev pub steps_left : Stage → List ℕ → ℕ
+steps_left unread input = body_steps + 2 * (ROOM - length input) + 1
+steps_left short input = body_steps + 2 * (ROOM - length input)
+steps_left (reading a reader room) input = 2 * room + (1 - length (drop a.len input))
+steps_left (refusing code) input = 0
+steps_left (ready a behind) input = 0
+steps_left finished input = 0

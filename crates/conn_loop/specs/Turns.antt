@@ -1,0 +1,39 @@
+-- What the bytes of a connection begin with, head and body together, and what is answered before the body.
+use Rattle.std.specs.Prelude.{ℕ, ◌+◌, List, [], drop, if◌then◌else◌}
+use Rattle.warp_request.specs.Body.{BodyVerdict, body_of}
+use Rattle.warp_request.specs.Body as body
+use Rattle.warp_request.specs.Next.{next_of}
+use Rattle.warp_request.specs.Verdict.{Verdict, Asked}
+use Rattle.warp_request.specs.Verdict as head
+use Rattle.warp_response.specs.Text.{interim_text}
+
+-- a request that isn't whole yet, one that is refused with a status, or a whole one of so many bytes
+pub data Turn : Type 0 where
+  unfinished : Turn
+  refused : ℕ → Turn
+  whole : Asked → ℕ → Turn
+
+-- by the verdict on the body behind a head
+abbrev pub turn_by_body : Asked → BodyVerdict → Turn
+turn_by_body a body.more = unfinished
+turn_by_body a (body.refused code) = refused code
+turn_by_body a (body.whole n) = whole a (a.len + n)
+
+-- by the verdict on the head
+abbrev pub turn_by_head : List ℕ → Verdict → Turn
+turn_by_head s head.more = unfinished
+turn_by_head s (head.refused code) = refused code
+turn_by_head s (head.asked a) = turn_by_body a (body_of a.framing (drop a.len s))
+
+-- what the bytes s begin with
+unfoldable pub turn_of : List ℕ → Turn
+turn_of s = turn_by_head s (next_of s)
+
+abbrev pub interim_by : Verdict → List ℕ
+interim_by head.more = []
+interim_by (head.refused code) = []
+interim_by (head.asked a) = if a.interim then interim_text else []
+
+-- what is answered as soon as the head at the front of s is whole, whether or not its body came (RFC 9110, section 10.1.1)
+unfoldable pub interim_of : List ℕ → List ℕ
+interim_of s = interim_by (next_of s)
