@@ -1,0 +1,6 @@
+pub mod CourseLemmas
+pub mod LinkLemmas
+pub mod RoundLemmas
+pub mod ScriptLemmas
+pub mod Steps
+pub mod WorldLemmas

@@ -1,0 +1,13 @@
+pub mod Courses
+pub mod Deliveries
+pub mod Faults
+pub mod Leaves
+pub mod NetLinks
+pub mod NetListeners
+pub mod NetSteps
+pub mod PlanLaws
+pub mod Polls
+pub mod Ports
+pub mod Rounds
+pub mod Scripts
+pub mod Seats

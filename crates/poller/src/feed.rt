@@ -1,0 +1,77 @@
+// The way of a word into a poller. It is with the link or listener until that is added, and then with the poller.
+ghost use Rattle.std.specs.Prelude.{◌≡◌, ◌<◌, ◌≤◌, ◌+◌, ◌==◌, ◌||◌, ◌↔◌, IsTrue, length, nat_lt, slice_index};
+ghost use Rattle.std.specs.Arc.{arc_value};
+ghost use Rattle.poller.specs.Deliveries.{limits_of};
+ghost use Rattle.poller.specs.Ports.{FeedState, IsFeed, feed_state};
+ghost use Rattle.poller.specs.Seats.{IsFeeder, IsOf, scripts_of, sight_of, table_of};
+
+use crate::net::{Net, NetSeat};
+use std::alloc::Global;
+use std::marker::Model;
+use std::sync::Arc;
+
+/// The one seat that may raise a word, with how often it did and may.
+#[derive(Drop)]
+pub(crate) struct Feed {
+    net: Arc<Net, Global>,
+    seat: NetSeat,
+    word: usize,
+    delivered: u64,
+    limit: u64,
+    left: bool,
+}
+
+impl Model for Feed {
+    ghost Value = { FeedState };
+
+    ghost view = { λ feed. feed_state (arc_value feed.net) feed.seat feed.word feed.delivered feed.limit };
+
+    ghost invariant = { λ feed. IsFeed (arc_value feed.net) feed.seat feed.word feed.delivered feed.limit feed.left };
+}
+
+impl Feed {
+    /// The feed of a word that wasn't raised yet and is raised so often at most.
+    pub(crate) fn new(net: Arc<Net, Global>, seat: NetSeat, word: usize, limit: u64) -> Feed
+        requires own { IsOf (arc_value net) seat }
+        requires inside { word < length (limits_of (scripts_of (arc_value net))) }
+        requires alone { IsFeeder seat word }
+        requires fresh { ((sight_of seat).seen ≡ 0) × ((sight_of seat).loads ≡ 0) × ((sight_of seat).left ≡ 0) }
+        requires most { limit ≡ slice_index (limits_of (scripts_of (arc_value net))) word }
+        ensures { result ≡ record { table = table_of (arc_value net); word = word; delivered = 0; limit = limit; left = 0; looks = 0 } }
+    {
+        Feed {
+            net,
+            seat,
+            word,
+            delivered: 0,
+            limit,
+            left: false,
+        }
+    }
+
+    /// Whether it is at its end: the link was found to have left, or all steps were delivered.
+    pub(crate) fn is_done(&self) -> bool
+        ensures done { result ≡ (nat_lt 0 self.now.left || (self.now.delivered == self.now.limit)) }
+        ensures within { self.now.delivered ≤ self.now.limit }
+    {
+        self.left || self.delivered == self.limit
+    }
+
+    /// Whether the link has left, at one load.
+    pub(crate) fn has_left(&mut self) -> bool
+        ensures found { self.new ≡ record self.old { left = self.new.left; looks = self.old.looks + 1 } }
+        ensures left { IsTrue result ↔ (0 < self.new.left) }
+    {
+        self.left = self.net.has_left(&mut self.seat, self.word);
+        self.left
+    }
+
+    /// Delivers one more step, where not all were.
+    pub(crate) fn deliver(&mut self)
+        requires { self.old.delivered < self.old.limit }
+        ensures { self.new ≡ record self.old { delivered = self.old.delivered + 1 } }
+    {
+        self.net.deliver(&mut self.seat, self.word);
+        self.delivered += 1;
+    }
+}

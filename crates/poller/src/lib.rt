@@ -1,0 +1,40 @@
+// Who tells a dispatcher which connections became ready, and a model of it in memory.
+//
+// `Poller` is a trait: links and a listener are added to a poller under their openings, and a poll gives reports,
+// each an opening with the directions in which it may be ready. `MemNet` makes a net in memory, whose pollers
+// deliver the steps of scripts to its links: this project's own model of edge reports, an edge for each change.
+//
+// The promise: the reports of a poll of the net are exactly the links whose words it raised, and a link answers
+// that its caller must wait only where what one look found delivered is used up. So the net's steps are lawful
+// steps of the device world.
+#![tactic(auto)]
+
+mod course;
+mod dealer;
+mod feed;
+mod laws;
+mod limits;
+mod mem_link;
+mod mem_listener;
+mod mem_net;
+mod mem_poller;
+mod net;
+mod plays;
+mod poller;
+mod port;
+mod reports;
+mod script;
+mod sight;
+
+pub use laws::{raises_are_lawful, waits_are_lawful};
+pub use limits::{ACCEPTS, REPORTS};
+pub use mem_link::MemLink;
+pub use mem_listener::MemListener;
+pub use mem_net::MemNet;
+pub use mem_poller::MemPoller;
+pub use poller::{AddOut, PollOut, Poller};
+pub use reports::Reports;
+pub use script::{Script, ScriptStep};
+
+#[cfg(test)]
+mod tests;

@@ -1,0 +1,158 @@
+// The listener of a memory net, which gives a link for each script, in order.
+ghost use Rattle.std.specs.Prelude.{◌≡◌, ◌<◌, ◌≤◌, ◌+◌, ◌-◌, ◌^◌, ◌↔◌, IfOk, IsTrue, OnErr, OnOk, None, Some, length};
+ghost use Rattle.outside.specs.Counts.{more_by_one, nothing_counted};
+ghost use Rattle.outside.specs.ListenCauses.{IfAccepted, IsPlannedAt, IsUntouched, accept_waits_after, accepted_after};
+ghost use Rattle.poller.specs.Deliveries.{limits_of};
+ghost use Rattle.poller.specs.NetLinks.{fresh_net_link, net_link_of, waits_of};
+ghost use Rattle.poller.specs.NetListeners.{AcceptsNet, IsListener, NetListener};
+ghost use Rattle.poller.specs.Ports.{fresh_port};
+ghost use Rattle.poller.specs.Scripts.{AreScripts, plans_from, room_at, steps_at};
+
+use crate::course::lay;
+use crate::dealer::Dealer;
+use crate::feed::Feed;
+use crate::limits::ACCEPTS;
+use crate::mem_link::MemLink;
+use crate::port::Port;
+use crate::script::Script;
+use outside::{AcceptOut, Count, Link, Listener, Room};
+use std::alloc::{AllocError, Global};
+use std::collections::VecDeque;
+use std::marker::Model;
+
+/// The listener of a memory net. It tells its plans, the numbers and inputs of the scripts, and never fails.
+#[derive(Drop)]
+pub struct MemListener {
+    alloc: Global,
+    port: Port,
+    dealer: Dealer,
+    scripts: VecDeque<Script>,
+    accepted: Count,
+    waits: Count,
+}
+
+impl Model for MemListener {
+    ghost Value = { NetListener };
+
+    ghost view = { λ listener. record {
+      table = listener.port.table;
+      scripts = listener.dealer.scripts;
+      accepted = listener.accepted;
+      raised = listener.port.delivered;
+      loads = listener.port.loads;
+      waits = listener.waits;
+      feed = listener.port.feed;
+    } };
+
+    ghost invariant = { λ listener. IsListener listener.port listener.dealer listener.scripts.items listener.accepted.n };
+}
+
+impl MemListener {
+    /// The listener of a net whose words aren't dealt but the first, which is the port's.
+    pub(crate) fn new(
+        alloc: Global,
+        port: Port,
+        dealer: Dealer,
+        scripts: VecDeque<Script>,
+    ) -> MemListener
+        requires { IsListener port dealer scripts.items 0 }
+        ensures scripts { result.scripts ≡ scripts.items }
+        ensures accepted { result.accepted.n ≡ 0 }
+        ensures raised { result.raised ≡ port.delivered }
+        ensures waits { result.waits.n ≡ 0 }
+        ensures feed { result.feed ≡ port.feed }
+    {
+        MemListener {
+            alloc,
+            port,
+            dealer,
+            scripts,
+            accepted: Count::new(),
+            waits: Count::new(),
+        }
+    }
+
+    /// Whether it was added to a poller.
+    pub(crate) fn is_added(&self) -> bool
+        ensures { IsTrue result ↔ (self.now.feed ≡ None) }
+    {
+        self.port.is_added()
+    }
+
+    /// Gives its feed to a poller, where no poller has it yet.
+    pub(crate) fn take_feed(&mut self) -> Option<Feed>
+        ensures feed { result ≡ self.old.feed }
+        ensures taken { self.new ≡ record self.old { feed = None } }
+    {
+        self.port.take_feed()
+    }
+}
+
+/// The link of the next word, which is that of a script.
+fn next_link(alloc: Global, dealer: &mut Dealer, script: &Script) -> Result<MemLink, AllocError>
+    requires next { (1 ≤ dealer.old.next) × (dealer.old.next < length (limits_of dealer.old.scripts)) }
+    requires steps { script.now.steps.items ≡ steps_at dealer.old.scripts (dealer.old.next - 1) }
+    requires room { script.now.room ≡ room_at dealer.old.scripts (dealer.old.next - 1) }
+    requires short { length script.now.steps.items < 2 ^ 32 }
+    ensures link { IfOk result (λ link. net_link_of link ≡ fresh_net_link dealer.old.table dealer.old.scripts (dealer.old.next - 1)) }
+    ensures port { IfOk result (λ link. link.port ≡ fresh_port dealer.old) }
+    ensures waits { IfOk result (λ link. waits_of link ≡ nothing_counted) }
+    ensures next { OnOk result (dealer.new ≡ record dealer.old { next = dealer.old.next + 1 }) }
+    ensures none { OnErr result (dealer.new ≡ dealer.old) }
+{
+    let course = lay(alloc, &script.steps)?;
+    let room = Room::new(alloc, script.room)?;
+    let port = dealer.deal(script.steps.len() as u64)?;
+    Ok(MemLink::new(port, course, room))
+}
+
+impl Listener for MemListener {
+    ghost use Rattle.std.proofs.Common.{arith};
+    ghost use Rattle.poller.specs.PlanLaws.{numbers_apart};
+
+    type Link = MemLink;
+
+    ghost accepted = { λ listener. listener.accepted.n };
+
+    ghost waits = { λ listener. listener.waits.n };
+
+    ghost faults = { λ _. 0 };
+
+    ghost failed_row = { λ _. 0 };
+
+    ghost plans = { λ listener. Some (plans_from 0 listener.scripts) };
+
+    fn accept(&mut self) -> AcceptOut<MemLink>
+        ensures untouched { IfAccepted result (λ link. IsUntouched (⟦<MemLink as Link>⟧.taken link) (⟦<MemLink as Link>⟧.sent link) (⟦<MemLink as Link>⟧.ended link) (⟦<MemLink as Link>⟧.faults link) (⟦<MemLink as Link>⟧.waits link)) }
+        ensures planned { IfAccepted result (λ link. IsPlannedAt (Some (plans_from 0 self.old.scripts)) self.old.accepted.n (⟦<MemLink as Link>⟧.plan link)) }
+        ensures accepts { AcceptsNet self.old self.new result }
+        ensures counted { self.new.accepted.n ≡ accepted_after result self.old.accepted.n }
+        ensures waited { self.new.waits.n ≡ accept_waits_after result self.old.waits.n }
+    {
+        let allowed = ACCEPTS * (self.port.delivered() + 1);
+        if self.accepted.now() >= allowed {
+            self.waits.rise();
+            return AcceptOut::NotYet;
+        }
+        let Some(script) = self.scripts.front() else {
+            self.waits.rise();
+            return AcceptOut::NotYet;
+        };
+        let Ok(link) = next_link(self.alloc, &mut self.dealer, script) else {
+            return AcceptOut::NoMemory;
+        };
+        let _given = self.scripts.pop_front();
+        self.accepted.rise();
+        AcceptOut::Accepted(link)
+    }
+
+    ghost plans_apart = { λ listener. numbers_apart listener.scripts };
+
+    ghost row_fits = { λ _. Prim.omega arith };
+
+    ghost accepted_fits = { λ listener. listener.accepted.fits };
+
+    ghost waits_fit = { λ listener. listener.waits.fits };
+
+    ghost faults_fit = { λ _. Prim.omega arith };
+}
