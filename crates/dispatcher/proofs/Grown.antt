@@ -1,0 +1,92 @@
+-- Passes grow from call to call.
+use Rattle.std.proofs.Common.{◌≡◌, ℕ, zero, suc, List, [], ◌∷◌, set, sym, refl, ◌∙◌, subst}
+use Rattle.std.specs.Prelude.{slice_get, Some}
+use mathlib.Core.List.{IsPrefix}
+use Rattle.std.proofs.lemmas.Option.{none-some, same_Some}
+use Rattle.reg_keys.specs.declared.entry.Entry.{Entry}
+use Rattle.turn_cell.specs.declared.view.View.{View}
+use Rattle.turn_cell.specs.History.{Log, entries_in}
+use Rattle.turn_cell.specs.View.{own_entries, seat_of}
+use Rattle.event_mgr.specs.Stripes.{StripeEntered, StripeSpent}
+use Rattle.event_mgr.specs.Manager.{MgrView, OnlyAt, EnteredAt, SpentAt}
+use Rattle.dispatcher.specs.Stripes.{Each, HasGrown, AllGrown}
+use Rattle.dispatcher.specs.Runs.{RunsAt, HasRun}
+use Rattle.dispatcher.specs.declared.runner.AfterRun.{AfterRun}
+use Rattle.dispatcher.proofs.Lists.{begins_same, begins_then, begins_two, begins_one}
+
+module _ {E : Type 0} where
+  pub grown_same : (v : View E) → HasGrown v v
+  grown_same v = record { name = refl; classes = refl; seen = begins_same v.seen; own = begins_same (own_entries v) }
+
+  pub grown_then : (u v w : View E) → HasGrown u v → HasGrown v w → HasGrown u w
+  grown_then u v w p q = record {
+    name = q.name ∙ p.name;
+    classes = q.classes ∙ p.classes;
+    seen = begins_then u.seen v.seen w.seen p.seen q.seen;
+    own = begins_then (own_entries u) (own_entries v) (own_entries w) p.own q.own;
+  }
+
+  pub grown_as : (v w : View E) → w.name ≡ v.name → w.seen ≡ v.seen → w.classes ≡ v.classes → HasGrown v w
+  grown_as v w name seen classes = let own : own_entries w ≡ own_entries v = λ i. entries_in (classes i) (seen i) in record {
+    name = name;
+    classes = classes;
+    seen = subst (λ (l : Log E). IsPrefix v.seen l) (sym seen) (begins_same v.seen);
+    own = subst (λ (l : Log E). IsPrefix (own_entries v) l) (sym own) (begins_same (own_entries v));
+  }
+
+module _ {V : Type 0} (R : V → V → Type 0) (same : (v : V) → R v v) where
+  pub each_same : (vs : List V) → Each R vs vs
+  each_same [] = tt
+  each_same (v ∷ vs) = (same v, each_same vs)
+
+  pub each_set : (vs : List V) (i : ℕ) (a b : V) → slice_get vs i ≡ Some a → R a b → Each R vs (set vs i b)
+  each_set [] i a b e r = absurd (none-some a e)
+  each_set (v ∷ vs) zero a b e r = (subst (λ (z : V). R z b) (sym (same_Some v a e)) r, each_same vs)
+  each_set (v ∷ vs) (suc i) a b e r = (same v, each_set vs i a b e r)
+
+module _ {V : Type 0} where
+  pub each_then : (R : V → V → Type 0) → ((u v w : V) → R u v → R v w → R u w) → (us vs ws : List V) → Each R us vs → Each R vs ws → Each R us ws
+  each_then R on [] [] [] a b = tt
+  each_then R on [] [] (w ∷ ws) a b = absurd b
+  each_then R on [] (v ∷ vs) ws a b = absurd a
+  each_then R on (u ∷ us) [] ws a b = absurd a
+  each_then R on (u ∷ us) (v ∷ vs) [] a b = absurd b
+  each_then R on (u ∷ us) (v ∷ vs) (w ∷ ws) a b = (on u v w a.0 b.0, each_then R on us vs ws a.1 b.1)
+
+  pub each_of : (R S : V → V → Type 0) → ((v w : V) → R v w → S v w) → (vs ws : List V) → Each R vs ws → Each S vs ws
+  each_of R S of [] [] a = tt
+  each_of R S of [] (w ∷ ws) a = absurd a
+  each_of R S of (v ∷ vs) [] a = absurd a
+  each_of R S of (v ∷ vs) (w ∷ ws) a = (of v w a.0, each_of R S of vs ws a.1)
+
+pub all_grown_same : (v : MgrView) → AllGrown v v
+all_grown_same v = record { stripes = each_same HasGrown grown_same v.stripes; numbers = grown_same v.numbers }
+
+pub all_grown_then : (u v w : MgrView) → AllGrown u v → AllGrown v w → AllGrown u w
+all_grown_then u v w p q = record {
+  stripes = each_then HasGrown grown_then u.stripes v.stripes w.stripes p.stripes q.stripes;
+  numbers = grown_then u.numbers v.numbers w.numbers p.numbers q.numbers;
+}
+
+only_at_grown : (s : ℕ) (R : View Entry → View Entry → Type 0) → ((x y : View Entry) → R x y → HasGrown x y) → (v w : MgrView) → OnlyAt s R v w → AllGrown v w
+only_at_grown s R of v w a = record {
+  stripes = subst (λ (l : List (View Entry)). Each HasGrown v.stripes l) (sym a.stripe.others) (each_set HasGrown grown_same v.stripes s a.stripe.before a.stripe.after a.stripe.there (of a.stripe.before a.stripe.after a.stripe.moved));
+  numbers = subst (λ z. HasGrown v.numbers z) (sym a.numbers) (grown_same v.numbers);
+}
+
+entered_stripe : (e : Entry) (x y : View Entry) → StripeEntered e x y → HasGrown x y
+entered_stripe e x y k = record {
+  name = k.name;
+  classes = k.classes;
+  seen = begins_two x.seen k.between ((seat_of x, e) ∷ []) y.seen k.seen;
+  own = begins_one (own_entries x) ((seat_of x, e) ∷ []) (own_entries y) k.own;
+}
+
+pub entered_grown : (s : ℕ) (e : Entry) (v w : MgrView) → EnteredAt s e v w → AllGrown v w
+entered_grown s e v w a = only_at_grown s (StripeEntered e) (entered_stripe e) v w a
+
+pub spent_grown : (s : ℕ) (v w : MgrView) → SpentAt s v w → AllGrown v w
+spent_grown s v w a = only_at_grown s StripeSpent (λ x y k. grown_as x y k.unmoved.name k.unmoved.seen k.unmoved.classes) v w a
+
+pub run_grown : (v : MgrView) (r : AfterRun) (w : MgrView) → HasRun v r w → AllGrown v w
+run_grown v r w k = record { stripes = each_of RunsAt HasGrown (λ x y h. h.grown) v.stripes w.stripes k.stripes; numbers = k.numbers }

@@ -1,0 +1,13 @@
+pub mod Lists
+pub mod Grown
+pub mod Shown
+pub mod Weighs
+pub mod Within
+pub mod Accounts
+pub mod Steps
+pub mod Works
+pub mod WorkSteps
+pub mod Replies
+pub mod Ends
+pub mod Parts
+pub mod Rotates

@@ -1,0 +1,9 @@
+pub mod Entries
+pub mod Stripes
+pub mod Told
+pub mod Books
+pub mod Firings
+pub mod Work
+pub mod Runs
+pub mod Dealing
+pub mod Turns

@@ -1,0 +1,53 @@
+-- What a run of a job may do with the manager's pass.
+use Rattle.std.specs.Prelude.{◌≡◌, ℕ, ◌+◌, List, [], ◌++◌, Option, Some, None}
+use Rattle.std.specs.Option.{option_to_list}
+use Rattle.reg_keys.specs.declared.event.EventName.{EventName}
+use Rattle.reg_keys.specs.declared.entry.Entry.{Entry}
+use Rattle.turn_cell.specs.declared.view.View.{View}
+use Rattle.turn_cell.specs.Weights.{weigh}
+use Rattle.turn_cell.specs.History.{Log}
+use Rattle.turn_cell.specs.View.{own_entries}
+use Rattle.event_mgr.specs.Manager.{MgrView}
+use Rattle.poller.specs.Faults.{PollerFaults}
+use Rattle.poller.specs.Polls.{Report}
+use Rattle.dispatcher.specs.declared.runner.EventPair.{EventPair}
+use Rattle.dispatcher.specs.declared.runner.AfterRun.{AfterRun}
+use Rattle.dispatcher.specs.declared.runner.AfterRun.TheVariants.{Events, Stop}
+use Rattle.dispatcher.specs.Entries.{named_by}
+use Rattle.dispatcher.specs.Stripes.{Each, HasGrown, AreOfRun, weigh_shown}
+
+-- the events of a pair, in order
+abbrev pub events_of : EventPair → List EventName
+events_of p = option_to_list p.first ++ option_to_list p.second
+
+-- the events that a run gave
+abbrev pub pair_of : AfterRun → EventPair
+pair_of (Events p) = p
+pair_of (Stop code p) = p
+
+-- the code with which a run stopped, if it did
+abbrev pub code_of : AfterRun → Option ℕ
+code_of (Events p) = None
+code_of (Stop code p) = Some code
+
+-- at one stripe the pass has grown, and its new entries are of calls that a run may make
+pub record RunsAt (v w : View Entry) : Type 0 where
+  pub grown : HasGrown v w
+  pub made : Log Entry
+  pub own : own_entries w ≡ own_entries v ++ made
+  pub calls : AreOfRun made
+
+-- A run made no report and no dispatch, and gave exactly the events that its calls named
+pub record HasRun (v : MgrView) (result : AfterRun) (w : MgrView) : Type 0 where
+  pub stripes : Each RunsAt v.stripes w.stripes
+  pub numbers : HasGrown v.numbers w.numbers
+  pub named : (h : EventName → ℕ) → weigh_shown named_by h w ≡ weigh_shown named_by h v + weigh h (events_of (pair_of result))
+
+-- a run gave no events
+abbrev pub GivesNoEvents : AfterRun → Type 0
+GivesNoEvents result = events_of (pair_of result) ≡ []
+
+-- what a poller tells of its polls is as it was: the pairs that they gave, and their faults, with those of adding listeners
+pub record LeavesPolls {X : Type 0} (polled : X → Option (List Report)) (faults : X → PollerFaults) (x y : X) : Type 0 where
+  pub same_polled : polled y ≡ polled x
+  pub same_faults : (faults y).polls ≡ (faults x).polls

@@ -1,0 +1,284 @@
+// A turn of a dispatcher: the hand, the queue, the poll and the reports, in this order.
+ghost use Rattle.std.specs.Prelude.{◌≡◌, ◌+◌, ◌*◌, ◌<◌, ◌≤◌, ◌⊎◌, [], ◌∷◌, length, None, IfOk, IfErr};
+ghost use Rattle.ready_queue.specs.Calls.{view_of, capacity_of};
+ghost use Rattle.event_mgr.specs.Manager.{mgr_view};
+ghost use Rattle.dispatcher.specs.Books.{IsAccounted, WasFullWithin};
+ghost use Rattle.dispatcher.specs.Runs.{LeavesPolls};
+ghost use Rattle.dispatcher.specs.Turns.{AreOf, book_of, book_with, work_with, code_of_halt, TakesNone, HasTaken, HasRunKeys, HasHalted, HasReportedOne, HasReportedAll, HasLeftReports, HasTurned, stop_of};
+
+use crate::dealing::deal_any;
+use crate::hand::HAND;
+use crate::pass::DispPass;
+use crate::runner::Runner;
+use crate::running::dispatch;
+use crate::turned::{Count, Halt, Turned};
+use event_mgr::EventManager;
+use poller::{PollOut, Poller, REPORTS, Reports};
+use ready_queue::{PutOut, ReadyQueue, TakeOut};
+use reg_keys::{Dirs, Event, Opening};
+use std::sync::Wait;
+use stripe_table::{Load, ReportReply};
+
+// How many events may be in the hand before an event is taken or a report is made. A dispatch names at most nine, so that beyond these no place is short.
+const KEPT: usize = HAND / 2;
+
+/// Takes at most `max` events from the queue, dispatches each and runs what fired. Then it polls once, without waiting where it took an event or has one in the hand, and reports each pair that the poll gave. `reports` is what the poll gives them in, and is empty.
+///
+/// An event that a call names is put into the queue. Where that is full it stays in the hand, and the next turn puts it or dispatches it by itself; so it does within the turn where more than a few are in the hand. Where the hand is full too, it waits for a place in the queue. Nothing is allocated but by the runner and the poller.
+pub fn turn<T: Load, X: Runner<T>, R: Wait>(
+    rt: &R,
+    mgr: &EventManager<T>,
+    queue: &ReadyQueue,
+    passes: &mut DispPass<T>,
+    runner: &mut X,
+    reports: &mut Reports,
+    max: u32,
+) -> Turned
+    requires own { AreOf mgr.now queue.now passes.old }
+    requires stop { X.stop runner.old ≡ None }
+    requires fits { X.fits runner.old (mgr_view passes.old.mgr) [] }
+    requires empty { reports.old ≡ [] }
+    ensures own { AreOf mgr.now queue.now passes.new }
+    ensures stop { X.stop runner.new ≡ stop_of result }
+    ensures fits { X.fits runner.new (mgr_view passes.new.mgr) [] }
+    ensures turned { HasTurned X.runs X.shuts X.keeps X.poller_of X.Poller.polled X.Poller.faults (capacity_of queue.now) max passes.old runner.old result reports.new passes.new runner.new }
+{
+    let kept = match empty_hand::<T, X, R>(rt, mgr, queue, passes, runner) {
+        Ok(ran) => ran,
+        Err(halt) => return halt.turned(),
+    };
+    let taken = match take_events::<T, X, R>(rt, mgr, queue, passes, runner, max) {
+        Ok(count) => count,
+        Err(halt) => return halt.turned(),
+    };
+    let idle = taken.handled == 0 && passes.hand.len() == 0;
+    match runner.poller().poll(rt, idle, reports) {
+        PollOut::Polled => {}
+        PollOut::Failed => return Turned::PollFault,
+    }
+    match report_all::<T, X, R>(rt, mgr, queue, passes, runner, reports) {
+        Ok(told) => Turned::Done {
+            reports: told.handled,
+            ran: kept + taken.ran + told.ran,
+        },
+        Err(halt) => halt.turned(),
+    }
+}
+
+// Puts an event of the hand into the queue, or dispatches it by itself where the queue is full.
+fn put_or_dispatch<T: Load, X: Runner<T>, R: Wait>(
+    rt: &R,
+    mgr: &EventManager<T>,
+    queue: &ReadyQueue,
+    passes: &mut DispPass<T>,
+    runner: &mut X,
+    event: Event,
+) -> Result<u64, Halt>
+    requires own { AreOf mgr.now queue.now passes.old }
+    requires stop { X.stop runner.old ≡ None }
+    requires room { length passes.old.hand < HAND }
+    requires fits { X.fits runner.old (mgr_view passes.old.mgr) [] }
+    ensures own { AreOf mgr.now queue.now passes.new }
+    ensures stop { X.stop runner.new ≡ code_of_halt result }
+    ensures room { IfOk result (λ _. length passes.new.hand < HAND) }
+    ensures fits { X.fits runner.new (mgr_view passes.new.mgr) [] }
+    ensures poller { LeavesPolls X.Poller.polled X.Poller.faults (X.poller_of runner.old) (X.poller_of runner.new) }
+    ensures events { IfOk result (λ _. IsAccounted (capacity_of queue.now) (book_with (event ∷ []) [] passes.old) (book_of passes.new)) }
+    ensures takes { IfOk result (λ _. TakesNone passes.old passes.new) }
+    ensures few { IfOk result (λ n. n ≤ 4) }
+    ensures ran { IfOk result (λ n. HasRunKeys X.runs X.shuts X.keeps n (work_with [] [] passes.old) runner.old (work_with [] [] passes.new) runner.new) }
+    ensures halted { IfErr result (λ halt. HasHalted X.runs X.shuts X.keeps (event ∷ []) [] [] passes.old runner.old halt passes.new runner.new) }
+{
+    match queue.put(rt, &mut passes.queue, event) {
+        PutOut::Put => Ok(0),
+        PutOut::Full(back) => dispatch::<T, X, R>(rt, mgr, queue, passes, runner, back),
+    }
+}
+
+// Puts or dispatches each event that is in the hand. It answers how many keys fired.
+fn empty_hand<T: Load, X: Runner<T>, R: Wait>(
+    rt: &R,
+    mgr: &EventManager<T>,
+    queue: &ReadyQueue,
+    passes: &mut DispPass<T>,
+    runner: &mut X,
+) -> Result<u64, Halt>
+    requires own { AreOf mgr.now queue.now passes.old }
+    requires stop { X.stop runner.old ≡ None }
+    requires fits { X.fits runner.old (mgr_view passes.old.mgr) [] }
+    ensures own { AreOf mgr.now queue.now passes.new }
+    ensures stop { X.stop runner.new ≡ code_of_halt result }
+    ensures room { IfOk result (λ _. 0 < length passes.old.hand → length passes.new.hand < HAND) }
+    ensures fits { X.fits runner.new (mgr_view passes.new.mgr) [] }
+    ensures poller { LeavesPolls X.Poller.polled X.Poller.faults (X.poller_of runner.old) (X.poller_of runner.new) }
+    ensures events { IfOk result (λ _. IsAccounted (capacity_of queue.now) (book_of passes.old) (book_of passes.new)) }
+    ensures emptied { IfOk result (λ _. WasFullWithin (capacity_of queue.now) (view_of passes.old.queue) (view_of passes.new.queue) ⊎ (passes.new.hand ≡ [])) }
+    ensures takes { IfOk result (λ _. TakesNone passes.old passes.new) }
+    ensures few { IfOk result (λ n. n ≤ 4 * HAND) }
+    ensures ran { IfOk result (λ n. HasRunKeys X.runs X.shuts X.keeps n (work_with [] [] passes.old) runner.old (work_with [] [] passes.new) runner.new) }
+    ensures halted { IfErr result (λ halt. HasHalted X.runs X.shuts X.keeps [] [] [] passes.old runner.old halt passes.new runner.new) }
+{
+    let mut ran = 0u64;
+    for _ in 0..passes.hand.len() {
+        let Some(event) = passes.hand.pop_first() else {
+            return Ok(ran);
+        };
+        match put_or_dispatch::<T, X, R>(rt, mgr, queue, passes, runner, event) {
+            Ok(fired) => ran += fired,
+            Err(halt) => return Err(halt),
+        }
+    }
+    Ok(ran)
+}
+
+// The same, where many events are in the hand. Then it has room for those that the next call names.
+fn relieve<T: Load, X: Runner<T>, R: Wait>(
+    rt: &R,
+    mgr: &EventManager<T>,
+    queue: &ReadyQueue,
+    passes: &mut DispPass<T>,
+    runner: &mut X,
+) -> Result<u64, Halt>
+    requires own { AreOf mgr.now queue.now passes.old }
+    requires stop { X.stop runner.old ≡ None }
+    requires fits { X.fits runner.old (mgr_view passes.old.mgr) [] }
+    ensures own { AreOf mgr.now queue.now passes.new }
+    ensures stop { X.stop runner.new ≡ code_of_halt result }
+    ensures room { IfOk result (λ _. length passes.new.hand < HAND) }
+    ensures fits { X.fits runner.new (mgr_view passes.new.mgr) [] }
+    ensures poller { LeavesPolls X.Poller.polled X.Poller.faults (X.poller_of runner.old) (X.poller_of runner.new) }
+    ensures events { IfOk result (λ _. IsAccounted (capacity_of queue.now) (book_of passes.old) (book_of passes.new)) }
+    ensures takes { IfOk result (λ _. TakesNone passes.old passes.new) }
+    ensures few { IfOk result (λ n. n ≤ 4 * HAND) }
+    ensures ran { IfOk result (λ n. HasRunKeys X.runs X.shuts X.keeps n (work_with [] [] passes.old) runner.old (work_with [] [] passes.new) runner.new) }
+    ensures halted { IfErr result (λ halt. HasHalted X.runs X.shuts X.keeps [] [] [] passes.old runner.old halt passes.new runner.new) }
+{
+    if passes.hand.len() < KEPT {
+        return Ok(0);
+    }
+    empty_hand::<T, X, R>(rt, mgr, queue, passes, runner)
+}
+
+// Takes at most `max` events, and dispatches each.
+fn take_events<T: Load, X: Runner<T>, R: Wait>(
+    rt: &R,
+    mgr: &EventManager<T>,
+    queue: &ReadyQueue,
+    passes: &mut DispPass<T>,
+    runner: &mut X,
+    max: u32,
+) -> Result<Count, Halt>
+    requires own { AreOf mgr.now queue.now passes.old }
+    requires stop { X.stop runner.old ≡ None }
+    requires fits { X.fits runner.old (mgr_view passes.old.mgr) [] }
+    ensures own { AreOf mgr.now queue.now passes.new }
+    ensures stop { X.stop runner.new ≡ code_of_halt result }
+    ensures fits { X.fits runner.new (mgr_view passes.new.mgr) [] }
+    ensures poller { LeavesPolls X.Poller.polled X.Poller.faults (X.poller_of runner.old) (X.poller_of runner.new) }
+    ensures events { IfOk result (λ _. IsAccounted (capacity_of queue.now) (book_of passes.old) (book_of passes.new)) }
+    ensures takes { IfOk result (λ _. HasTaken (capacity_of queue.now) max passes.old passes.new) }
+    ensures few { IfOk result (λ count. count.ran ≤ (4 * HAND + 4) * max) }
+    ensures ran { IfOk result (λ count. HasRunKeys X.runs X.shuts X.keeps count.ran (work_with [] [] passes.old) runner.old (work_with [] [] passes.new) runner.new) }
+    ensures halted { IfErr result (λ halt. HasHalted X.runs X.shuts X.keeps [] [] [] passes.old runner.old halt passes.new runner.new) }
+{
+    let mut count = Count { handled: 0, ran: 0 };
+    for _ in 0..max {
+        match relieve::<T, X, R>(rt, mgr, queue, passes, runner) {
+            Ok(ran) => count.ran += ran,
+            Err(halt) => return Err(halt),
+        }
+        let TakeOut::Taken(event) = queue.take(rt, &mut passes.queue) else {
+            return Ok(count);
+        };
+        match dispatch::<T, X, R>(rt, mgr, queue, passes, runner, event) {
+            Ok(ran) => count.ran += ran,
+            Err(halt) => return Err(halt),
+        }
+        count.handled += 1;
+    }
+    Ok(count)
+}
+
+// Reports one pair. It is false where the report was refused as spent.
+fn report_one<T: Load, X: Runner<T>, R: Wait>(
+    rt: &R,
+    mgr: &EventManager<T>,
+    queue: &ReadyQueue,
+    passes: &mut DispPass<T>,
+    runner: &X,
+    opening: Opening,
+    dirs: Dirs,
+) -> bool
+    requires own { AreOf mgr.now queue.now passes.old }
+    requires room { length passes.old.hand < HAND }
+    requires fits { X.fits runner.now (mgr_view passes.old.mgr) [] }
+    ensures own { AreOf mgr.now queue.now passes.new }
+    ensures fits { X.fits runner.now (mgr_view passes.new.mgr) [] }
+    ensures takes { TakesNone passes.old passes.new }
+    ensures reported { HasReportedOne X.runs X.shuts X.keeps (capacity_of queue.now) (opening, dirs) passes.old runner.now result passes.new }
+{
+    let _runner = runner;
+    match mgr.report(rt, &mut passes.mgr, opening, dirs) {
+        ReportReply::Noted(event) => {
+            deal_any(rt, queue, &mut passes.queue, &mut passes.hand, event);
+            true
+        }
+        ReportReply::Stale => true,
+        ReportReply::Spent => false,
+    }
+}
+
+// Reports each pair, in order.
+fn report_all<T: Load, X: Runner<T>, R: Wait>(
+    rt: &R,
+    mgr: &EventManager<T>,
+    queue: &ReadyQueue,
+    passes: &mut DispPass<T>,
+    runner: &mut X,
+    reports: &mut Reports,
+) -> Result<Count, Halt>
+    requires own { AreOf mgr.now queue.now passes.old }
+    requires stop { X.stop runner.old ≡ None }
+    requires fits { X.fits runner.old (mgr_view passes.old.mgr) [] }
+    ensures own { AreOf mgr.now queue.now passes.new }
+    ensures stop { X.stop runner.new ≡ code_of_halt result }
+    ensures fits { X.fits runner.new (mgr_view passes.new.mgr) [] }
+    ensures poller { LeavesPolls X.Poller.polled X.Poller.faults (X.poller_of runner.old) (X.poller_of runner.new) }
+    ensures events { IfOk result (λ _. IsAccounted (capacity_of queue.now) (book_of passes.old) (book_of passes.new)) }
+    ensures takes { IfOk result (λ _. TakesNone passes.old passes.new) }
+    ensures few { IfOk result (λ count. count.ran ≤ 4 * HAND * REPORTS) }
+    ensures ran { IfOk result (λ count. HasReportedAll X.runs X.shuts X.keeps count passes.old runner.old reports.old passes.new runner.new reports.new) }
+    ensures halted { IfErr result (λ halt. HasLeftReports X.runs X.shuts X.keeps passes.old runner.old reports.old halt passes.new runner.new reports.new) }
+{
+    let _most = reports.len();
+    let mut count = Count { handled: 0, ran: 0 };
+    while let Some((opening, dirs)) = reports.pop_first() {
+        match relieve::<T, X, R>(rt, mgr, queue, passes, runner) {
+            Ok(ran) => count.ran += ran,
+            Err(halt) => {
+                put_first(reports, opening, dirs);
+                return Err(halt);
+            }
+        }
+        if !report_one::<T, X, R>(rt, mgr, queue, passes, runner, opening, dirs) {
+            put_first(reports, opening, dirs);
+            return Err(Halt::Spent);
+        }
+        count.handled += 1;
+    }
+    Ok(count)
+}
+
+// Puts a pair back before the others, which all go round once. It is done once in a turn at most, as the turn ends.
+fn put_first(reports: &mut Reports, opening: Opening, dirs: Dirs)
+    requires { length reports.old < REPORTS }
+    ensures { reports.new ≡ (opening, dirs) ∷ reports.old }
+{
+    let others = reports.len();
+    reports.push(opening, dirs);
+    for _ in 0..others {
+        if let Some((next, ready)) = reports.pop_first() {
+            reports.push(next, ready);
+        }
+    }
+}

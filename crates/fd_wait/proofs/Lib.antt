@@ -1,0 +1,4 @@
+mod OwnFlags
+mod Made
+mod Asked
+mod Waited

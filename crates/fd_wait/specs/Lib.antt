@@ -1,0 +1,2 @@
+pub mod OwnFlags
+pub mod Waiting
