@@ -60,23 +60,23 @@ pub trait Runner<T: Load> {
 
     /// Runs a registration that fired. A flag has no job, and is told by the manager to whoever asks for it: nothing is to be done for it.
     ///
-    /// It may make any calls on the manager but reports and dispatches, and gives the events that they named.
+    /// It may make any calls on the manager but reports and dispatches, and gives the events that they named. It takes the job out of what fired: the toolchain proves no impl of a method that takes by value what is made of `T`, beside a manager for `T`.
     fn run<R: Wait>(
         &mut self,
         rt: &R,
         mgr: &EventManager<T>,
         pass: &mut MgrPass<T>,
-        fired: Fired<T>,
+        fired: &mut Fired<T>,
     ) -> AfterRun
         requires own { IsOfMgr mgr.now pass.old }
         requires stop { stop self.old ≡ None }
-        requires fits { (rest : Jobs) × fits self.old (mgr_view pass.old) (job_in T.tag fired ++ rest) }
+        requires fits { (rest : Jobs) × fits self.old (mgr_view pass.old) (job_in T.tag fired.old ++ rest) }
         ensures own { IsOfMgr mgr.now pass.new }
-        ensures fits { (rest : Jobs) → fits self.old (mgr_view pass.old) (job_in T.tag fired ++ rest) → fits self.new (mgr_view pass.new) rest }
+        ensures fits { (rest : Jobs) → fits self.old (mgr_view pass.old) (job_in T.tag fired.old ++ rest) → fits self.new (mgr_view pass.new) rest }
         ensures made { HasRun (mgr_view pass.old) result (mgr_view pass.new) }
-        ensures flag { IfNone fired.job (GivesNoEvents result) }
+        ensures flag { IfNone fired.old.job (GivesNoEvents result) }
         ensures stop { stop self.new ≡ code_of result }
-        ensures runs { Gains (runs self.old) (runs self.new) (fired.key ∷ []) }
+        ensures runs { Gains (runs self.old) (runs self.new) (fired.old.key ∷ []) }
         ensures shuts { shuts self.new ≡ shuts self.old }
         ensures keeps { keeps self.old self.new }
         ensures poller { LeavesPolls Self.Poller.polled Self.Poller.faults (poller_of self.old) (poller_of self.new) };

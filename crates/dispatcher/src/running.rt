@@ -45,8 +45,8 @@ fn run_all<T: Load, X: Runner<T>, R: Wait>(
     ensures ran { (o : Opening) → HasRunAll X.runs X.shuts X.keeps (firings o (map (fired_key T.tag) list)) passes.old runner.old result passes.new runner.new }
 {
     let mut list = list;
-    while let Some(fired) = list.pop_first() {
-        match runner.run(rt, mgr, &mut passes.mgr, fired) {
+    while let Some(mut fired) = list.pop_first() {
+        match runner.run(rt, mgr, &mut passes.mgr, &mut fired) {
             AfterRun::Events(pair) => {
                 let EventPair { first, second } = pair;
                 deal_any(rt, queue, &mut passes.queue, &mut passes.hand, first);

@@ -25,6 +25,27 @@ loop-fired-init g c = record {
   ran = λ o. (0, omega arith, run_same g.X.Runner.runs g.X.Runner.shuts g.X.Runner.keeps g.met.X.Runner.keeps_same (work_with (firings o (map (fired_key g.T.Load.tag) c.args.list)) [] c.args.passes.now) c.args.runner.now);
 }
 
+pub loop-fired-preserved-in-Events : goal.loop-fired-preserved-in-Events
+loop-fired-preserved-in-Events g c = let i = c.loop-fired.invariant in let p = c.loop-fired.passes in let cap = capacity_of c.args.queue.now in let fk = fired_key g.T.Load.tag in
+    let rest = c.pop_first.new.self in let popped = c.in-Some.ensures in let m = mgr_view c.run.new.pass in let q = view_of c.deal_any-in-Events.new.pass in record {
+      own = (c.run.ensures.own, c.deal_any-in-Events.ensures.own);
+      stop = c.in-Events.ensures.stop;
+      room = c.deal_any-in-Events.ensures.room (c.deal_any.ensures.room i.room);
+      fits = c.run.ensures.fits (jobs_of (map fk rest)) (subst (λ l. g.X.Runner.fits c.loop-fired.runner (mgr_view p.mgr) (jobs_of (map fk l))) popped i.fits);
+      poller = record { same_polled = c.run.ensures.poller.same_polled ∙ i.poller.same_polled; same_faults = c.run.ensures.poller.same_faults ∙ i.poller.same_faults };
+      events = accounted_then cap (book_of c.args.passes.now) (book_of p) (book m q c.deal_any-in-Events.new.hand [] []) i.events
+          (run_deal_step cap (mgr_view p.mgr) m (view_of p.queue) (view_of c.deal_any.new.pass) q p.hand c.deal_any.new.hand c.deal_any-in-Events.new.hand (Events c.in-Events.pair) c.in-Events.ensures.made c.deal_any.ensures.dealt c.deal_any-in-Events.ensures.dealt);
+      takes = deal_any_takes_none (λ _. 1) cap c.in-Events.pair.second (view_of c.deal_any.new.pass) c.deal_any.new.hand q c.deal_any-in-Events.new.hand c.deal_any-in-Events.ensures.dealt
+          ∙ (deal_any_takes_none (λ _. 1) cap c.in-Events.pair.first (view_of p.queue) p.hand (view_of c.deal_any.new.pass) c.deal_any.new.hand c.deal_any.ensures.dealt ∙ i.takes);
+      ran = λ o. let r = i.ran o in let k = ap length popped in let n = r.1 in let a = work_with (firings o (map fk c.args.list)) [] c.args.passes.now in
+          let t = subst (λ l. HasRunKeys g.X.Runner.runs g.X.Runner.shuts g.X.Runner.keeps r.0 a c.args.runner.now (work (mgr_view p.mgr) (firings o (map fk l)) []) c.loop-fired.runner) popped r.2 in (
+            r.0 + 1,
+            omega arith,
+            run_then g.X.Runner.runs g.X.Runner.shuts g.X.Runner.keeps g.met.X.Runner.keeps_on r.0 1 a c.args.runner.now (work (mgr_view p.mgr) ((o, fk c.in-Some.fired) ∷ firings o (map fk rest)) []) c.loop-fired.runner (work m (firings o (map fk rest)) []) c.run.new.self t
+                (run_step g.X.Runner.runs g.X.Runner.shuts g.X.Runner.keeps (mgr_view p.mgr) m c.loop-fired.runner c.run.new.self (o, fk c.in-Some.fired) (firings o (map fk rest)) (Events c.in-Events.pair) c.in-Events.ensures.made c.run.ensures.runs c.run.ensures.shuts c.run.ensures.keeps),
+          );
+    }
+
 pub loop-fired-preserved : goal.loop-fired-preserved
 loop-fired-preserved g c = let i = c.loop-fired.invariant in let p = c.loop-fired.passes in let cap = capacity_of c.args.queue.now in let fk = fired_key g.T.Load.tag in
     let rest = c.pop_first.new.self in let popped = c.in-Some.ensures in let m = mgr_view c.run.new.pass in let q = view_of c.deal_any-in-Events.new.pass in record {
