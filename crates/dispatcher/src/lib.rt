@@ -16,3 +16,8 @@ pub use pass::DispPass;
 pub use runner::{AfterRun, EventPair, Runner};
 pub use turned::Turned;
 pub use turning::turn;
+
+#[cfg(test)]
+mod planned;
+#[cfg(test)]
+mod tests;

@@ -1,0 +1,163 @@
+// What the tests turn with: a poller that gives what was planned, and a runner that keeps the keys that it was given.
+ghost use Rattle.std.specs.Prelude.{◌≡◌, ◌≤◌, [], ◌∷◌, None, Some, Option, option_map, refl};
+ghost use Rattle.reg_keys.specs.declared.registration.Key.{Key};
+ghost use Rattle.event_mgr.specs.Manager.{IsOfMgr, mgr_view};
+ghost use Rattle.dispatcher.specs.Told.{Gains};
+ghost use Rattle.dispatcher.specs.Runs.{HasRun, GivesNoEvents, code_of};
+
+use crate::runner::{AfterRun, EventPair, Runner};
+use event_mgr::{EventManager, MgrPass};
+use outside::Count;
+use poller::{AddOut, MemLink, MemListener, PollOut, Poller, Reports};
+use reg_keys::{Dirs, Key, Opening};
+use std::sync::Wait;
+use stripe_table::{Fired, Load};
+
+/// A job, which nothing is known of.
+#[derive(Drop)]
+pub struct Job;
+
+impl Load for Job {
+    ghost tag = { λ _. [] };
+}
+
+/// A poller that gives at its next poll the pairs that are planned, the last one first, and keeps what it was asked. It tells no list.
+#[derive(Drop)]
+pub struct Planned {
+    pub plan: Vec<(Opening, Dirs)>,
+    pub fails: bool,
+    pub idle: Option<bool>,
+    pub faults: Count,
+}
+
+impl Poller for Planned {
+    type Link = MemLink;
+
+    type Listener = MemListener;
+
+    ghost faults = { λ p. record { links = 0; polls = p.faults.n } };
+
+    ghost polled = { λ _. None };
+
+    ghost polls = { λ old new. old.faults.n ≤ new.faults.n };
+
+    fn add(&mut self, _opening: Opening, _link: &mut MemLink) -> AddOut {
+        AddOut::Added
+    }
+
+    fn add_listener(&mut self, _opening: Opening, _listener: &mut MemListener) -> AddOut {
+        AddOut::Added
+    }
+
+    fn poll<R: Wait>(&mut self, _rt: &R, idle: bool, out: &mut Reports) -> PollOut {
+        self.idle = Some(idle);
+        if self.fails {
+            self.faults.rise();
+            return PollOut::Failed;
+        }
+        while let Some((opening, dirs)) = self.plan.pop() {
+            out.push(opening, dirs);
+        }
+        PollOut::Polled
+    }
+
+    ghost polls_leave = { λ old new h. record { links = refl; later = h } };
+}
+
+/// One key more in a list that is told, as long as there is room for it.
+fn kept(keys: Option<Vec<Key>>, key: Key) -> Option<Vec<Key>>
+    ensures { Gains (option_map (λ v. v.items) keys) (option_map (λ v. v.items) result) (key ∷ []) }
+{
+    let mut keys = keys?;
+    if keys.len() < keys.capacity() {
+        keys.push_reserved(key);
+        Some(keys)
+    } else {
+        None
+    }
+}
+
+/// A runner that keeps the keys that it was given to run and to shut, and stops at each run with the code 7 where it is to.
+#[derive(Drop)]
+pub struct Keeper {
+    pub poller: Planned,
+    pub runs: Option<Vec<Key>>,
+    pub shuts: Option<Vec<Key>>,
+    pub stops: bool,
+    pub stopped: Option<u8>,
+}
+
+impl<T: Load> Runner<T> for Keeper {
+    type Poller = Planned;
+
+    ghost poller_of = { λ k. k.poller };
+
+    ghost with_poller = { λ k p. record k { poller = p } };
+
+    ghost fits = { λ k v jobs. Unit {0} };
+
+    ghost keeps = { λ k l. Unit {0} };
+
+    ghost stop = { λ k. k.stopped };
+
+    ghost runs = { λ k. option_map (λ v. v.items) k.runs };
+
+    ghost shuts = { λ k. option_map (λ v. v.items) k.shuts };
+
+    fn run<R: Wait>(
+        &mut self,
+        _rt: &R,
+        _mgr: &EventManager<T>,
+        _pass: &mut MgrPass<T>,
+        fired: &mut Fired<T>,
+    ) -> AfterRun
+        requires own { IsOfMgr _mgr.now _pass.old }
+        requires stop { self.old.stopped ≡ None }
+        ensures own { IsOfMgr _mgr.now _pass.new }
+        ensures made { HasRun (mgr_view _pass.old) result (mgr_view _pass.new) }
+        ensures flag { GivesNoEvents result }
+        ensures stop { self.new.stopped ≡ code_of result }
+        ensures runs { Gains (option_map (λ v. v.items) self.old.runs) (option_map (λ v. v.items) self.new.runs) (fired.old.key ∷ []) }
+        ensures shuts { self.new.shuts ≡ self.old.shuts }
+        ensures poller { self.new.poller ≡ self.old.poller }
+    {
+        self.runs = kept(self.runs.take(), fired.key);
+        let pair = EventPair {
+            first: None,
+            second: None,
+        };
+        if !self.stops {
+            return AfterRun::Events(pair);
+        }
+        self.stopped = Some(7);
+        AfterRun::Stop(7, pair)
+    }
+
+    fn shut(&mut self, key: Key, _job: T) {
+        self.shuts = kept(self.shuts.take(), key);
+    }
+
+    fn poller(&mut self) -> &mut Planned {
+        &mut self.poller
+    }
+
+    ghost lent = { λ k p. refl };
+
+    ghost lent_stop = { λ k p. refl };
+
+    ghost lent_runs = { λ k p. refl };
+
+    ghost lent_shuts = { λ k p. refl };
+
+    ghost keeps_same = { λ k. tt };
+
+    ghost keeps_on = { λ k l m a b. tt };
+
+    ghost keeps_polled = { λ k p a. tt };
+
+    ghost fits_polled = { λ k p v jobs a f. tt };
+
+    ghost fits_reported = { λ k o ds v reply w jobs a f. tt };
+
+    ghost fits_dispatched = { λ k e v reply w jobs a f. tt };
+}
