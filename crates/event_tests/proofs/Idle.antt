@@ -1,5 +1,5 @@
 -- A run that makes no calls.
-use Rattle.std.proofs.Common.{◌≡◌, ℕ, ◌+◌, List, [], ◌∷◌, refl, sym, arith}
+use Rattle.std.proofs.Common.{List, [], ◌∷◌, refl, sym, arith}
 use Rattle.std.specs.Prelude.{None}
 use Rattle.std.proofs.lemmas.List.{append-nil}
 use Rattle.reg_keys.specs.declared.entry.Entry.{Entry}
