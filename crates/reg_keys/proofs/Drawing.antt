@@ -76,7 +76,7 @@ module _ (s c : ℕ) where
   drawn_once (e ∷ past) l = subst (λ (x : Entry). Drawn (x ∷ past)) (sym l.1) (step past (drawn_once past l.0) e)
 
 -- an entry that makes an opening draws its number
-opens_le : (o : Opening) (e : Entry) → opens o e ≤ draws o.number e
+pub opens_le : (o : Opening) (e : Entry) → opens o e ≤ draws o.number e
 opens_le o (Open fd (Opens.Opened p)) = ⊎_elim (λ h. let q : p.number ≡ o.number = ap (λ (z : Opening). z.number) (same_is p o h) in let a : one_if (same p o) ≡ 1 = ap one_if h in let b : one_if (p.number == o.number) ≡ 1 = ap one_if (eq-eqb p.number o.number q) in omega arith)
     (λ h. let a : one_if (same p o) ≡ 0 = ap one_if h in omega arith) (cases_Bool (same p o))
 opens_le o (Open fd (Opens.Taken p)) = omega arith

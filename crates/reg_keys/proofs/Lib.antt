@@ -16,3 +16,7 @@ pub mod Consistent
 pub mod Refusing
 pub mod Marking
 pub mod Wakes
+pub mod EndsRegistered
+pub mod RunMarks
+pub mod Openings
+pub mod InStripe

@@ -20,12 +20,12 @@ use Rattle.reg_keys.proofs.RightReplies.{next_key, ran_by, shut_by, open_case, r
 use Rattle.reg_keys.proofs.Removal.{left_after_run}
 
 module _ {A : Type 0} (f : A → ℕ) where
-  total_filter_le : (p : A → Bool) (xs : List A) → total f (filter p xs) ≤ total f xs
+  pub total_filter_le : (p : A → Bool) (xs : List A) → total f (filter p xs) ≤ total f xs
   total_filter_le p [] = omega arith
   total_filter_le p (x ∷ xs) = let r = total_filter_le p xs in split_filter p p x xs (λ l. total f l ≤ total f (x ∷ xs)) (λ _. omega arith) (λ _. omega arith)
 
   -- what passes a test and what doesn't are the whole
-  total_parts : (p : A → Bool) (xs : List A) → total f (filter p xs) + total f (filter (λ x. not (p x)) xs) ≡ total f xs
+  pub total_parts : (p : A → Bool) (xs : List A) → total f (filter p xs) + total f (filter (λ x. not (p x)) xs) ≡ total f xs
   total_parts p [] = refl
   total_parts p (x ∷ xs) = by_case (p x) (filter p xs) (filter (λ x. not (p x)) xs) (total_parts p xs)
     where
@@ -34,7 +34,7 @@ module _ {A : Type 0} (f : A → ℕ) where
       by_case false ys zs r = omega arith
 
 -- a sum over a list of answers is one over the registrations that it answers for
-total_map : {A B : Type 0} (f : A → ℕ) (g : B → ℕ) (b : A → B) (xs : List A) → ((x : A) → IsIn x xs → g (b x) ≡ f x) → total g (map b xs) ≡ total f xs
+pub total_map : {A B : Type 0} (f : A → ℕ) (g : B → ℕ) (b : A → B) (xs : List A) → ((x : A) → IsIn x xs → g (b x) ≡ f x) → total g (map b xs) ≡ total f xs
 total_map f g b [] h = refl
 total_map f g b (x ∷ xs) h = let r = total_map f g b xs (λ y i. h y (inr i)) in let a = h x (inl refl) in omega arith
 
@@ -42,7 +42,7 @@ module _ (s c : ℕ) (f : Registered → ℕ) where
   abbrev Bounded : List Entry → Type 0
   Bounded past = weight (weight_run f) past + total f (waiting past) ≤ weight (weight_registered f) past
 
-  run_is : (past : List Entry) (x : EventName) (w : Registered) → fires s c past x w ≡ true → f (run_of x (fired_as (marks_of s c past x.opening) w)) ≡ f w
+  pub run_is : (past : List Entry) (x : EventName) (w : Registered) → fires s c past x w ≡ true → f (run_of x (fired_as (marks_of s c past x.opening) w)) ≡ f w
   run_is past x w h = let a = and_parts (same x.opening w.opening) (nat_lt w.key.number x.number) (and_parts (same x.opening w.opening && nat_lt w.key.number x.number) (event_has s c past x w.dir) h).0 in
       let q : x.opening ≡ w.opening = same_is x.opening w.opening a.0 in ap (λ (o : Opening). f (record { key = w.key; opening = o; dir = w.dir; kind = w.kind })) q
 

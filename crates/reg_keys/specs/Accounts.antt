@@ -1,11 +1,13 @@
 -- What is promised of every legal history in sums over its entries, whatever their order, and of
 -- what a flag's owner is told.
-use Rattle.std.specs.Prelude.{◌≡◌, ℕ, ◌+◌, ◌≤◌, ◌==◌, List, Option, Some, None}
+use Rattle.std.specs.Prelude.{◌≡◌, ℕ, ◌+◌, ◌≤◌, ◌==◌, ◌%◌, List, ◌∷◌, ◌++◌, false, Option, Some, None}
+use Rattle.reg_keys.specs.declared.limits.TheConstants.{STRIPES}
 use Rattle.reg_keys.specs.declared.opening.Opening.{Opening}
 use Rattle.reg_keys.specs.declared.event.EventName.{EventName}
 use Rattle.reg_keys.specs.declared.registration.Key.{Key}
 use Rattle.reg_keys.specs.declared.registration.Dir.{Dir}
 use Rattle.reg_keys.specs.declared.registration.Marks.{Marks}
+use Rattle.reg_keys.specs.declared.entry.LoadKind.{LoadKind}
 use Rattle.reg_keys.specs.declared.entry.FiredKey.{FiredKey}
 use Rattle.reg_keys.specs.declared.entry.ShutKey.{ShutKey}
 use Rattle.reg_keys.specs.declared.entry.Entry.{Entry}
@@ -17,8 +19,8 @@ use Rattle.reg_keys.specs.declared.entry.AskOutcome.TheVariants as Asked
 use Rattle.reg_keys.specs.declared.entry.DispatchOutcome.TheVariants.{Ran}
 use Rattle.reg_keys.specs.declared.entry.CloseOutcome.TheVariants.{Shut}
 use Rattle.reg_keys.specs.Tests.{same, one_if, total, IsIn}
-use Rattle.reg_keys.specs.Histories.{Registered}
-use Rattle.reg_keys.specs.Promises.{weight, times_run}
+use Rattle.reg_keys.specs.Histories.{Registered, IsLive, is_live, marks_of}
+use Rattle.reg_keys.specs.Promises.{weight, times_run, shuts}
 
 -- ---- numbers
 
@@ -46,6 +48,28 @@ pub record DrawsEachOnce (past : List Entry) : Type 0 where
   pub openings : (o : Opening) → weight (opens o) past ≤ 1
   pub runs : (k : Key) → weight (times_run k) past ≤ 1
 
+-- Each number is drawn in its own stripe, and so is the number of each key that ran. Numbers of
+-- different stripes are therefore different.
+pub record DrawsInItsStripe (s : ℕ) (past : List Entry) : Type 0 where
+  pub numbers : (n : ℕ) → 1 ≤ weight (draws n) past → n % STRIPES ≡ s
+  pub openings : (o : Opening) → 1 ≤ weight (opens o) past → o.number % STRIPES ≡ s
+  pub runs : (k : Key) → 1 ≤ weight (times_run k) past → k.number % STRIPES ≡ s
+
+-- ---- openings
+
+-- the entry closed this opening
+abbrev pub closes : Opening → Entry → ℕ
+closes o e = one_if (shuts o e)
+
+-- each opening that was made is live, or was closed, once
+abbrev pub ClosesWhatItOpened : List Entry → Type 0
+ClosesWhatItOpened past = (o : Opening) → weight (closes o) past + one_if (is_live past o) ≡ weight (opens o) past
+
+-- what was closed, or was made and isn't live, is never live again, whatever comes later
+pub record ClosesForGood (later past : List Entry) : Type 0 where
+  pub closed : (o : Opening) → 1 ≤ weight (closes o) past → is_live (later ++ past) o ≡ false
+  pub gone : (o : Opening) → 1 ≤ weight (opens o) past → is_live past o ≡ false → is_live (later ++ past) o ≡ false
+
 -- ---- what ran
 
 -- a registration that an event ran, as the Ran list shows it
@@ -66,6 +90,30 @@ weight_registered f _ = 0
 -- ran shows the key, opening, direction and tag of its own registration
 abbrev pub RunsWhatWasRegistered : List Entry → Type 0
 RunsWhatWasRegistered past = (f : Registered → ℕ) → weight (weight_run f) past ≤ weight (weight_registered f) past
+
+-- ---- what ended
+
+-- what the registrations weigh that an entry ran or shut, by key, opening and load
+abbrev pub weight_ended : (Key → Opening → LoadKind → ℕ) → Entry → ℕ
+weight_ended f (Dispatch x (Ran ran e)) = total (λ (r : FiredKey). f r.key x.opening r.kind) ran
+weight_ended f (Close o (Shut xs)) = total (λ (x : ShutKey). f x.key o x.kind) xs
+weight_ended f _ = 0
+
+-- what the registration weighs that an entry accepted, by key, opening and load
+abbrev pub weight_accepted : (Key → Opening → LoadKind → ℕ) → Entry → ℕ
+weight_accepted f (Register o d m kind (Waits key e)) = f key o kind
+weight_accepted f _ = 0
+
+-- However registrations are weighed, those that ran and those that were shut together weigh no more
+-- than those that were accepted: each that ended shows the key, opening and tag of its own
+-- registration, and none ended twice.
+abbrev pub EndsWhatWasRegistered : List Entry → Type 0
+EndsWhatWasRegistered past = (f : Key → Opening → LoadKind → ℕ) → weight (weight_ended f) past ≤ weight (weight_accepted f) past
+
+-- a dispatch that ran something was of an opening that was live, and each Ran key shows its marks
+abbrev pub RunsUnderItsMarks : ℕ → ℕ → List Entry → Type 0
+RunsUnderItsMarks s c past = (later : List Entry) (x : EventName) (ran : List FiredKey) (e : Option EventName) (earlier : List Entry) → past ≡ later ++ Dispatch x (Ran ran e) ∷ earlier
+    → IsLive earlier x.opening × ((r : FiredKey) → IsIn r ran → r.marks ≡ marks_of s c earlier x.opening)
 
 -- ---- what a flag's owner is told
 

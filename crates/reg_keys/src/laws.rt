@@ -1,5 +1,6 @@
 // What holds of every legal history. Each law is the contract of a function that does nothing.
-ghost use Rattle.std.specs.Prelude.{ℕ, List, Bool};
+ghost use Rattle.std.specs.Prelude.{ℕ, ◌<◌, List, ◌++◌, Bool};
+ghost use Rattle.reg_keys.specs.declared.limits.TheConstants.{STRIPES};
 ghost use Rattle.reg_keys.specs.declared.entry.Entry.{Entry};
 ghost use Rattle.reg_keys.specs.Replies.{IsLegal};
 ghost use Rattle.reg_keys.specs.Promises.{RunsOnce, HasOneEventEach};
@@ -8,7 +9,7 @@ ghost use Rattle.reg_keys.specs.declared.registration.Dir.{Dir};
 ghost use Rattle.reg_keys.specs.Consistency.{IsConsistent};
 ghost use Rattle.reg_keys.specs.Refusals.{IsRefusal, ChangesNothing};
 ghost use Rattle.reg_keys.specs.World.{WorldStep, first_world, world_at, IsLawful, LosesNoWakeUp};
-ghost use Rattle.reg_keys.specs.Accounts.{DrawsEachOnce, RunsWhatWasRegistered, TellsOfFlags};
+ghost use Rattle.reg_keys.specs.Accounts.{DrawsEachOnce, DrawsInItsStripe, ClosesWhatItOpened, ClosesForGood, RunsWhatWasRegistered, EndsWhatWasRegistered, RunsUnderItsMarks, TellsOfFlags};
 
 /// A callback runs at most once and only under its own opening, whatever openings come and go.
 pub fn legal_runs_once()
@@ -28,6 +29,35 @@ pub fn legal_draws_each_once()
 /// What runs shows the key, opening, direction and tag of its own registration.
 pub fn legal_runs_what_was_registered()
     ensures { (s : ℕ) (c : ℕ) (past : List Entry) → IsLegal s c past → RunsWhatWasRegistered past }
+{}
+
+/// What ran and what was shut shows the key, opening and tag of its own registration, and each
+/// registration ended once at most, whether it ran or was shut.
+pub fn legal_ends_what_was_registered()
+    ensures { (s : ℕ) (c : ℕ) (past : List Entry) → IsLegal s c past → EndsWhatWasRegistered past }
+{}
+
+/// What runs is shown the marks that its opening had just before, and the opening was live.
+pub fn legal_runs_under_its_marks()
+    ensures { (s : ℕ) (c : ℕ) (past : List Entry) → IsLegal s c past → RunsUnderItsMarks s c past }
+{}
+
+/// Each number is drawn in its own stripe, so what holds of each stripe's numbers alone holds of
+/// those of all stripes together.
+pub fn legal_draws_in_its_stripe()
+    ensures { (s : ℕ) (c : ℕ) (past : List Entry)
+        → s < STRIPES → IsLegal s c past → DrawsInItsStripe s past }
+{}
+
+/// Each opening that was made is live, or was closed, once.
+pub fn legal_closes_what_it_opened()
+    ensures { (s : ℕ) (c : ℕ) (past : List Entry) → IsLegal s c past → ClosesWhatItOpened past }
+{}
+
+/// An opening that was closed stays closed.
+pub fn legal_closes_for_good()
+    ensures { (s : ℕ) (c : ℕ) (later : List Entry) (past : List Entry)
+        → IsLegal s c (later ++ past) → ClosesForGood later past }
 {}
 
 /// A flag's owner is told that it ran, or that it was closed, only where the history shows it.
