@@ -10,3 +10,5 @@ pub mod RowLemmas
 pub mod Seen
 pub mod StripeLemmas
 pub mod Weights
+pub mod BothWeights
+pub mod Sums

@@ -31,7 +31,7 @@ use Rattle.event_mgr.specs.declared.numbers.Numbers.{Numbers}
 use Rattle.event_mgr.specs.Rows.{At, name_at}
 use Rattle.event_mgr.specs.declared.answers.OpenOut.TheVariants as Open
 use Rattle.event_mgr.specs.Stripes.{stripe_of, past_in, StripeEntered, StripeSpent, StripeTried, StripeTriedSpent, GivenBack}
-use Rattle.event_mgr.specs.Manager.{MgrView, IsLawful, EnteredAt, SpentAt, TriedAt, Drew, HasOpened, IsMgrSplit, IsMgrJoined}
+use Rattle.event_mgr.specs.Manager.{MgrView, IsLawful, EnteredAt, SpentAt, TriedAt, Drew, HasOpened, IsMgrSplit, IsMgrJoined, IsMgrShared}
 use Rattle.event_mgr.specs.Kinds.{HasCalled, HasTried}
 use Rattle.event_mgr.proofs.Places.{some_at, each_set, at_imp, map_at}
 use Rattle.event_mgr.proofs.StripeLemmas.{stripe_stands, stripe_name, stripe_entered, stripe_spent, numbers_stand, numbers_name, numbers_entered, numbers_spent, entered_legal, entered_last, numbers_last}
@@ -171,3 +171,20 @@ drawn_low v w r fd is k = let n = numbers_entered (numbers_entry Draw r) v w k i
 
 pub drawn_entry : (v w : View NumbersEntry) (r : NumbersReply) (fd : ℕ) → r ≡ Drawn fd → Entered numbers_stand numbers_name (numbers_entry Draw r) v w → Drew fd v w
 drawn_entry v w r fd is k = numbers_entered (numbers_entry Draw (Drawn fd)) v w (subst (λ (x : NumbersReply). Entered numbers_stand numbers_name (numbers_entry Draw x) v w) is k)
+
+-- what one pass told another
+pub shared_lawful : (v w v' w' : MgrView) → IsLawful v → IsLawful w → IsMgrShared v w v' w' → IsLawful v' × IsLawful w'
+shared_lawful v w v' w' l m j = let n = l.many in let n' = m.many in let k = j.stripes.many in let k' = j.stripes.many_other in let cut = split_keeps RightSeen v.numbers v'.numbers j.numbers.between j.numbers.split l.numbers in (
+  record {
+    many = k ∙ n;
+    legal = λ s z e. let t = slice_get_within v'.stripes s z e in let x = some_at v.stripes s (omega arith) in let y = some_at w.stripes s (omega arith) in let u = some_at w'.stripes s (omega arith) in
+        let h = j.stripes.each s x.0 y.0 z u.0 x.1 y.1 e u.1 in (split_keeps (LegalSeen s) x.0 z h.between h.split (l.legal s x.0 x.1)).0;
+    numbers = cut.0;
+  },
+  record {
+    many = k' ∙ n';
+    legal = λ s z e. let t = slice_get_within w'.stripes s z e in let x = some_at v.stripes s (omega arith) in let y = some_at w.stripes s (omega arith) in let u = some_at v'.stripes s (omega arith) in
+        let h = j.stripes.each s x.0 y.0 u.0 z x.1 y.1 u.1 e in joined_keeps (LegalSeen s) y.0 h.between z h.joined (m.legal s y.0 y.1) (split_keeps (LegalSeen s) x.0 u.0 h.between h.split (l.legal s x.0 x.1)).1;
+    numbers = joined_keeps RightSeen w.numbers j.numbers.between w'.numbers j.numbers.joined m.numbers cut.1;
+  },
+)

@@ -1,6 +1,7 @@
 -- A row of cells and its passes, where one pass made steps, was split or joined.
-use Rattle.std.proofs.Common.{◌≡◌, ◌≢◌, ℕ, ◌<◌, ◌≤◌, ◌+◌, ◌⊎◌, ⊎_elim, List, [], ◌∷◌, ◌++◌, map, length, set, sym, refl, ap, ◌∙◌, subst, arith}
-use Rattle.std.specs.Prelude.{Some, slice_get}
+use Rattle.std.proofs.Common.{◌≡◌, ◌≢◌, ℕ, ◌<◌, ◌≤◌, ◌+◌, ◌⊎◌, ⊎_elim, List, [], ◌∷◌, ◌++◌, map, length, set, sym, refl, ap, ◌∙◌, subst, true, false, arith}
+use Rattle.std.proofs.lemmas.Bool.{eqb-true, eqb-false, cases_Bool}
+use Rattle.std.specs.Prelude.{Some, slice_get, ◌==◌}
 use Rattle.std.proofs.lemmas.List.{length-set, length-append, append-nil, length-map}
 use Rattle.std.proofs.Common.{append_assoc}
 use Rattle.std.proofs.lemmas.Option.{same_Some, none-some, slice_get_within}
@@ -13,7 +14,7 @@ use Rattle.turn_cell.specs.History.{Log}
 use Rattle.reg_keys.specs.declared.limits.TheConstants.{STRIPES}
 use Rattle.turn_cell.specs.View.{first_view}
 use Rattle.turn_cell.specs.Calls.{view_of, IsOf, IsSplit, IsJoined}
-use Rattle.event_mgr.specs.Rows.{IsRow, AreFresh, AreFirst, AreSplit, AreJoined, name_at}
+use Rattle.event_mgr.specs.Rows.{IsRow, AreFresh, AreFirst, AreSplit, AreJoined, HasShared, AreShared, name_at}
 use Rattle.event_mgr.proofs.Places.{get_set, get_snoc, get_before, get_behind, each_set, each_snoc, map_at}
 
 module _ {P C R E : Type 0} where
@@ -142,6 +143,49 @@ module _ {P : Type 0} where
   pub left_none : (parts rest : List P) (n : ℕ) → rest ≡ [] → AreLeft parts n rest → length parts ≡ n
   left_none parts rest n is a = ap length (a.1 ∙ (ap (λ (l : List P). a.0 ++ l) is ∙ append-nil a.0)) ∙ a.2
 
+-- ---- two rows that are gone through from their first places on, place by place
+module _ {A : Type 0} (R : A → A → A → A → Type 0) where
+  pub record Beside (ps ts qs us : List A) (i : ℕ) : Type 0 where
+    pub many : length qs ≡ length ps
+    pub many_other : length us ≡ length ts
+    pub done : (j : ℕ) (x t y u : A) → j < i → slice_get ps j ≡ Some x → slice_get ts j ≡ Some t → slice_get qs j ≡ Some y → slice_get us j ≡ Some u → R x t y u
+    pub still : (j : ℕ) (x y : A) → i ≤ j → slice_get ps j ≡ Some x → slice_get qs j ≡ Some y → y ≡ x
+    pub still_other : (j : ℕ) (x y : A) → i ≤ j → slice_get ts j ≡ Some x → slice_get us j ≡ Some y → y ≡ x
+
+  pub beside_start : (ps ts : List A) → Beside ps ts ps ts 0
+  beside_start ps ts = record { many = refl; many_other = refl; done = λ j x t y u lt a b c d. absurd (omega arith); still = λ j x y le ex ey. sym (same_Some x y (sym ex ∙ ey)); still_other = λ j x y le ex ey. sym (same_Some x y (sym ex ∙ ey)) }
+
+  pub beside_next : (ps ts qs us : List A) (i : ℕ) (p t q u : A) → slice_get qs i ≡ Some p → slice_get us i ≡ Some t → R p t q u → Beside ps ts qs us i → Beside ps ts (set qs i q) (set us i u) (i + 1)
+  beside_next ps ts qs us i p t q u at at_other r b = record {
+    many = length-set qs i q ∙ b.many;
+    many_other = length-set us i u ∙ b.many_other;
+    done = λ j x s y w lt ex es ey ew. ⊎_elim
+        (λ (h : (j ≡ i) × (q ≡ y)). ⊎_elim
+        (λ (k : (j ≡ i) × (u ≡ w)). let was : p ≡ x = b.still i x p (omega arith) (ap (slice_get ps) (sym h.0) ∙ ex) at in let was_other : t ≡ s = b.still_other i s t (omega arith) (ap (slice_get ts) (sym h.0) ∙ es) at_other in
+        subst (λ (d : A × (A × (A × A))). R d.0 d.1.0 d.1.1.0 d.1.1.1) (λ n. (was n, (was_other n, (h.1 n, k.1 n)))) r)
+        (λ (k : (j ≢ i) × (slice_get us j ≡ Some w)). absurd (k.0 h.0))
+        (get_set us i j u w ew))
+        (λ (h : (j ≢ i) × (slice_get qs j ≡ Some y)). ⊎_elim
+        (λ (k : (j ≡ i) × (u ≡ w)). absurd (h.0 k.0))
+        (λ (k : (j ≢ i) × (slice_get us j ≡ Some w)). let n = h.0 in b.done j x s y w (below j i n lt) ex es h.1 k.1)
+        (get_set us i j u w ew))
+        (get_set qs i j q y ey);
+    still = λ j x y le ex ey. ⊎_elim
+        (λ (h : (j ≡ i) × (q ≡ y)). let e = h.0 in absurd (omega arith))
+        (λ (h : (j ≢ i) × (slice_get qs j ≡ Some y)). b.still j x y (omega arith) ex h.1)
+        (get_set qs i j q y ey);
+    still_other = λ j x y le ex ey. ⊎_elim
+        (λ (h : (j ≡ i) × (u ≡ y)). let e = h.0 in absurd (omega arith))
+        (λ (h : (j ≢ i) × (slice_get us j ≡ Some y)). b.still_other j x y (omega arith) ex h.1)
+        (get_set us i j u y ey);
+  }
+    where
+      below : (j i : ℕ) → j ≢ i → j < i + 1 → j < i
+      below j i n lt = ⊎_elim (λ (h : (j == i) ≡ true). absurd (n (eqb-true j i h))) (λ (h : (j == i) ≡ false). let z = eqb-false j i h in smaller j i z lt) (cases_Bool (j == i))
+        where
+          smaller : (j i : ℕ) → (j ≡ i → ⊥) → j < i + 1 → j < i
+          smaller j i z lt = omega arith
+
 -- ---- whole rows
 
 module _ {P E : Type 0} where
@@ -157,6 +201,17 @@ module _ {P E : Type 0} where
     many_new = length-map os view_of ∙ (t.count ∙ sym (length-map ps view_of));
     each = λ i v w o ev ew eo. let x = map_at view_of ps i v ev in let y = map_at view_of qs i w ew in let z = map_at view_of os i o eo in
         subst (λ (d : View E × (View E × View E)). IsSplit d.0 d.1.0 d.1.1) (λ k. (x.2 k, (y.2 k, z.2 k))) (t.done i x.0 y.0 z.0 x.1 y.1 z.1);
+  }
+
+  abbrev pub SharesTo : Pass P E → Pass P E → Pass P E → Pass P E → Type 0
+  SharesTo x t y u = HasShared (view_of x) (view_of t) (view_of y) (view_of u)
+
+  pub all_shared : (ps ts qs us : List (Pass P E)) (n : ℕ) → n ≡ length ps → Beside SharesTo ps ts qs us n → AreShared (map view_of ps) (map view_of ts) (map view_of qs) (map view_of us)
+  all_shared ps ts qs us n all b = record {
+    many = length-map qs view_of ∙ (b.many ∙ sym (length-map ps view_of));
+    many_other = length-map us view_of ∙ (b.many_other ∙ sym (length-map ts view_of));
+    each = λ i v w v' w' ev ew ev' ew'. let x = map_at view_of ps i v ev in let t = map_at view_of ts i w ew in let y = map_at view_of qs i v' ev' in let u = map_at view_of us i w' ew' in let lt = slice_get_within ps i x.0 x.1 in
+        subst (λ (d : View E × (View E × (View E × View E))). HasShared d.0 d.1.0 d.1.1.0 d.1.1.1) (λ k. (x.2 k, (t.2 k, (y.2 k, u.2 k)))) (b.done i x.0 t.0 y.0 u.0 (omega arith) x.1 t.1 y.1 u.1);
   }
 
   pub all_joined : (ps os qs rest : List (Pass P E)) → length rest ≡ 0 → Back JoinsTo ps os qs rest → AreJoined (map view_of ps) (map view_of os) (map view_of qs)

@@ -5,3 +5,4 @@ pub mod Rows
 pub mod Stripes
 pub mod Manager
 pub mod Kinds
+pub mod Sums

@@ -16,7 +16,7 @@ use Rattle.reg_keys.specs.Replies.{IsLegal}
 use Rattle.turn_cell.specs.declared.view.View.{View}
 use Rattle.turn_cell.specs.Weights.{weigh}
 use Rattle.turn_cell.specs.History.{Log}
-use Rattle.turn_cell.specs.View.{own_entries, first_view}
+use Rattle.turn_cell.specs.View.{own_entries, first_view, gone_view}
 use Rattle.turn_cell.specs.Calls.{view_of, IsOf, IsRefused, IsSplit, IsJoined}
 use Rattle.stripe_table.specs.Calls.{reported, registered, dispatched, kind_of, kind_of_job, shut_key}
 use Rattle.stripe_table.specs.declared.load.Payload.{Payload}
@@ -27,7 +27,7 @@ use Rattle.stripe_table.specs.declared.calls.RegisterReply.TheVariants as Regist
 use Rattle.stripe_table.specs.declared.calls.DispatchReply.{DispatchReply}
 use Rattle.stripe_table.specs.declared.calls.DispatchReply.TheVariants as Dispatch
 use Rattle.event_mgr.specs.Numbers.{numbers_past, IsNumbersPast}
-use Rattle.event_mgr.specs.Rows.{At, AreOf, AreFirst, AreSplit, AreJoined, views_of}
+use Rattle.event_mgr.specs.Rows.{At, AreOf, AreFirst, AreSplit, AreJoined, HasShared, AreShared, views_of}
 use Rattle.event_mgr.specs.Stripes.{stripe_of, past_in, StripeEntered, StripeSpent, StripeTried, StripeTriedSpent, NumbersEntered, NumbersSpent, GivenBack}
 use Rattle.event_mgr.specs.declared.numbers.NumbersCall.TheVariants.{Draw}
 use Rattle.event_mgr.specs.declared.numbers.NumbersReply.TheVariants.{Drawn, AllOut}
@@ -110,6 +110,23 @@ pub record IsMgrSplit (v w o : MgrView) : Type 0 where
 pub record IsMgrJoined (v o w : MgrView) : Type 0 where
   pub stripes : AreJoined v.stripes o.stripes w.stripes
   pub numbers : IsJoined v.numbers o.numbers w.numbers
+
+-- one pass told another what it had seen, of each of the 33 histories. No pass made a call, and no entry is another's than before
+pub record IsMgrShared (v w v' w' : MgrView) : Type 0 where
+  pub stripes : AreShared v.stripes w.stripes v'.stripes w'.stripes
+  pub numbers : HasShared v.numbers w.numbers v'.numbers w'.numbers
+
+-- what the pass knows of this stripe; of a number that is no stripe's, nothing
+abbrev pub view_by : Option (View Entry) → View Entry
+view_by (Some x) = x
+view_by None = gone_view
+
+abbrev pub stripe_view : ℕ → MgrView → View Entry
+stripe_view s v = view_by (slice_get v.stripes s)
+
+-- what the pass's own entries in the history of the numbers weigh together
+abbrev pub number_weight : (NumbersEntry → ℕ) → MgrView → ℕ
+number_weight f v = weigh (λ (e : ℕ × NumbersEntry). f e.1) (own_entries v.numbers)
 
 -- ---- one call on one stripe
 

@@ -71,6 +71,18 @@ module _ {E : Type 0} where
     pub many : length ws ≡ length vs
     pub each : (i : ℕ) (v o w : View E) → slice_get vs i ≡ Some v → slice_get os i ≡ Some o → slice_get ws i ≡ Some w → IsJoined v o w
 
+  -- One pass told another what it had seen: what was split off the one, which knew v and then v', was joined into the other, which knew w and then w'
+  pub record HasShared (v w v' w' : View E) : Type 0 where
+    pub between : View E
+    pub split : IsSplit v v' between
+    pub joined : IsJoined w between w'
+
+  -- the same of each pass of a row
+  pub record AreShared (vs ws vs' ws' : List (View E)) : Type 0 where
+    pub many : length vs' ≡ length vs
+    pub many_other : length ws' ≡ length ws
+    pub each : (i : ℕ) (v w v' w' : View E) → slice_get vs i ≡ Some v → slice_get ws i ≡ Some w → slice_get vs' i ≡ Some v' → slice_get ws' i ≡ Some w' → HasShared v w v' w'
+
   module _ {P C R : Type 0} (stands : P → Log E → Type 0) (name_of : P → List ℕ) (entry : C → R → E) where
     -- what each answer of one try on the cell at a place says
     abbrev pub TriesAt : ℕ → C → List (View E) → Tried P C R E → List (View E) → Type 0

@@ -20,7 +20,7 @@ pub struct CellsPass<P, E> {
 }
 
 impl<P: Part> Cells<P> {
-    ghost use Rattle.event_mgr.specs.Rows.{name_at, views_of, AreNewParts, AreOf, AreFirst, AreSplit, AreJoined, TriesAt, StepsAt};
+    ghost use Rattle.event_mgr.specs.Rows.{name_at, views_of, AreNewParts, AreOf, AreFirst, AreSplit, AreJoined, AreShared, TriesAt, StepsAt};
 
     /// A row of cells round 32 parts that stand for no calls, and its first pass, which has all seats and has seen nothing. The part at each place has the name of that stripe, as `Stripe::new` gives it.
     ///
@@ -96,6 +96,24 @@ impl<P: Part> Cells<P> {
             passes.push_reserved(other);
         }
         Ok(CellsPass { passes })
+    }
+
+    /// Tells one pass what another has seen of each cell: a pass is split off the other and joined into the one. It takes no memory, waits for no turn, and makes no call.
+    pub fn share(&self, from: &mut CellsPass<P, P::Entry>, to: &mut CellsPass<P, P::Entry>)
+        requires from { AreOf self.now from.old }
+        requires to { AreOf self.now to.old }
+        ensures from { AreOf self.now from.new }
+        ensures to { AreOf self.now to.new }
+        ensures shared { AreShared (views_of from.old) (views_of to.old) (views_of from.new) (views_of to.new) }
+    {
+        for stripe in 0..self.cells.len() {
+            let source = &mut from.passes[stripe];
+            let Ok(other) = self.cells[stripe].split(source) else {
+                unreachable!()
+            };
+            let target = &mut to.passes[stripe];
+            self.cells[stripe].join(target, other);
+        }
     }
 
     /// Takes in another pass of the row, with all that it has seen of each cell and all its seats.

@@ -9,6 +9,7 @@ mod calls;
 mod cells;
 mod free_numbers;
 mod kinds;
+mod laws;
 mod manager;
 mod numbers;
 mod numbers_laws;
@@ -21,6 +22,7 @@ pub use answers::{
     TryReport, WithdrawOut,
 };
 pub use cells::{Cells, CellsPass};
+pub use laws::all_stripes_happen_once;
 pub use manager::EventManager;
 pub use numbers::{Numbers, NumbersCall, NumbersEntry, NumbersReply};
 pub use numbers_laws::{a_draw_gives_the_least_number, a_number_is_given_back_once};

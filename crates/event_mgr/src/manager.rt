@@ -1,6 +1,6 @@
 // The event manager: 32 stripes of the table of callbacks, each behind a turn of its own, and the numbers of descriptors behind one more. This file has what is stored, its making, and what is done with passes.
 ghost use Rattle.std.specs.Prelude.{◌≡◌, ◌<◌, IfOk, IfErr};
-ghost use Rattle.event_mgr.specs.Manager.{IsOfMgr, IsFirst, IsMgrSplit, IsMgrJoined, mgr_view};
+ghost use Rattle.event_mgr.specs.Manager.{IsOfMgr, IsFirst, IsMgrSplit, IsMgrJoined, IsMgrShared, mgr_view};
 
 use crate::cells::Cells;
 use crate::numbers::Numbers;
@@ -50,6 +50,21 @@ impl<T: Load> EventManager<T> {
             unreachable!()
         };
         Ok(MgrPass { stripes, numbers })
+    }
+
+    /// Tells one pass what another has seen, of each of the 33 histories. It takes no memory and waits for no turn, and neither pass's own entries change.
+    pub fn share(&self, from: &mut MgrPass<T>, to: &mut MgrPass<T>)
+        requires from { IsOfMgr self.now from.old }
+        requires to { IsOfMgr self.now to.old }
+        ensures from { IsOfMgr self.now from.new }
+        ensures to { IsOfMgr self.now to.new }
+        ensures shared { IsMgrShared (mgr_view from.old) (mgr_view to.old) (mgr_view from.new) (mgr_view to.new) }
+    {
+        self.stripes.share(&mut from.stripes, &mut to.stripes);
+        let Ok(other) = self.numbers.split(&mut from.numbers) else {
+            unreachable!()
+        };
+        self.numbers.join(&mut to.numbers, other);
     }
 
     /// Takes in another pass of the manager, with all that it has seen and all its seats.
