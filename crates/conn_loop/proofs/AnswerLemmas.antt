@@ -2,11 +2,12 @@
 use Rattle.std.proofs.Common.{◌≡◌, ℕ, zero, suc, ◌+◌, ◌<◌, Bool, true, false, List, [], ◌∷◌, ◌++◌, drop, refl, ap, ◌∙◌, arith}
 use Rattle.std.specs.Prelude.{if◌then◌else◌}
 use Rattle.warp_request.specs.Body.{BodyVerdict, body_of}
-use Rattle.warp_request.specs.Next.{next_of}
+use Rattle.warp_request.specs.Lines.{has_line, skip_empty}
+use Rattle.warp_request.specs.Next.{next_of, waits}
 use Rattle.warp_request.specs.Verdict.{Verdict, more, Asked}
 use Rattle.warp_request.specs.Verdict as head
 use Rattle.warp_response.specs.Text.{answer_text, refusal_text}
-use Rattle.conn_loop.specs.Answers.{closes, last_word, answers_at, answers_within, answers_behind, finals_at, finals_within, closed_at, closed_within, rest_at, rest_within}
+use Rattle.conn_loop.specs.Answers.{IsOpen, limit, closes, last_word, answers_at, answers_within, answers_behind, finals_at, finals_within, closed_at, closed_within, rest_at, rest_within}
 use Rattle.conn_loop.specs.Replying.{Replying}
 use Rattle.conn_loop.specs.Turns.{unfinished, refused, whole, turn_of, turn_by_head, turn_by_body, interim_of, interim_by}
 
@@ -68,6 +69,11 @@ unfolding answers_behind answers_at
 behind_unfinished reply zero s ks is = refl
 behind_unfinished reply (suc k) s ks is = rw is refl
 
+pub behind_whole : (reply : Replying) (k : ℕ) (s : List ℕ) (a : Asked) (len : ℕ) → turn_of s ≡ whole a len → answers_behind reply k s [] ≡ []
+unfolding answers_behind answers_at
+behind_whole reply zero s a len is = refl
+behind_whole reply (suc k) s a len is = rw is refl
+
 pub finals_unfinished : (k : ℕ) (s : List ℕ) → turn_of s ≡ unfinished → finals_within k s ≡ 0
 unfolding finals_within finals_at
 finals_unfinished zero s is = refl
@@ -86,6 +92,14 @@ closed_unfinished (suc k) s some is = rw is refl
 -- too little to say leaves the connection open
 pub closed_more : (k : ℕ) (s : List ℕ) → 0 < k → next_of s ≡ more → closed_within k s ≡ false
 closed_more k s some is = closed_unfinished k s some (turn_more s is)
+
+-- nothing closes nothing
+nothing_next : next_of [] ≡ more
+unfolding next_of waits has_line skip_empty
+nothing_next = refl
+
+pub open_nothing : IsOpen []
+open_nothing = closed_more limit [] (omega arith) nothing_next
 
 -- ---- a refusal
 

@@ -73,10 +73,6 @@ pub head_front : (s : List ℕ) (head : HeadInfo) → HasHead s head → asked_i
 head_front s head x =
     asked_same s (take head.head_len s) head x.lies (omega (arith, x.lies.2, length-take head.head_len s)) (sym (take_front head.head_len s))
 
-pub head_longer : (s piece : List ℕ) (head : HeadInfo) → HasHead s head → asked_in (s ++ piece) head ≡ asked_in s head
-head_longer s piece head x =
-    sym (asked_same s (s ++ piece) head x.lies (omega (arith, x.lies.2, length-append s piece)) (sym (take-append-le head.head_len s piece x.lies.2)))
-
 -- ---- what the bytes ahead are
 
 module _ (a : Asked) (input fed ahead : List ℕ) (fits : a.len ≤ length input) (parts : ahead ≡ take a.len input ++ (fed ++ drop a.len input))

@@ -10,7 +10,7 @@ use Rattle.warp_request.specs.Verdict as head
 use Rattle.warp_request.proofs.BodyGrowthLemmas.{body_stays, body_within}
 use Rattle.warp_request.proofs.GrowthLemmas.{next_stays}
 use Rattle.warp_response.specs.Text.{answer_text, refusal_text}
-use Rattle.conn_loop.specs.Answers.{BeginsWith, closes, last_word, answers_at, answers_within}
+use Rattle.conn_loop.specs.Answers.{BeginsWith, closes, last_word, answers_at, answers_within, closed_at, closed_within, finals_at, finals_within}
 use Rattle.conn_loop.specs.Replying.{Replying}
 use Rattle.conn_loop.specs.Turns.{Turn, unfinished, refused, whole, turn_of, turn_by_body, interim_of}
 use Rattle.conn_loop.proofs.AnswerLemmas.{turn_is, turn_asked, turn_more, interim_is}
@@ -110,3 +110,99 @@ pub answers_grow : (reply : Replying) (k : ℕ) (s t ms ks : List ℕ) → Begin
 unfolding answers_within
 answers_grow reply zero s t ms ks = ([], refl)
 answers_grow reply (suc k) s t ms ks = at_head reply k s t ms ks (next_of s) refl (λ len m later. answers_grow reply k (drop len s) t later ks)
+
+-- ---- moments enough
+
+enough_unless : (b : Bool) (n : ℕ) (ms x y : List ℕ) → (if b then 0 else n) ≤ length ms → (n ≤ length ms → x ≡ y) → (if b then [] else x) ≡ (if b then [] else y)
+enough_unless true n ms x y few again = refl
+enough_unless false n ms x y few again = again few
+
+enough_at : (reply : Replying) (k : ℕ) (s ms ks : List ℕ) (v : Turn) → finals_at v k (λ len. finals_within k (drop len s)) ≤ length ms
+    → ((len : ℕ) (later : List ℕ) → finals_within k (drop len s) ≤ length later → answers_within reply k (drop len s) (later ++ ks) ≡ answers_within reply k (drop len s) later)
+    → answers_at reply v k (ms ++ ks) (λ len later. answers_within reply k (drop len s) later) ≡ answers_at reply v k ms (λ len later. answers_within reply k (drop len s) later)
+unfolding answers_at finals_at
+enough_at reply k s ms ks unfinished few again = refl
+enough_at reply k s [] ks (refused code) few again = absurd (omega (arith, few))
+enough_at reply k s (m ∷ ms) ks (refused code) few again = refl
+enough_at reply k s [] ks (whole a len) few again = absurd (omega (arith, few))
+enough_at reply k s (m ∷ ms) ks (whole a len) few again =
+    ap (λ (t : List ℕ). answer_text (reply a) m (last_word a k) ++ t)
+    (enough_unless (closes a k) (finals_within k (drop len s)) ms _ _ (omega (arith, few)) (again len ms))
+
+-- moments beyond those that the bytes call for change nothing
+pub moments_enough : (reply : Replying) (k : ℕ) (s ms ks : List ℕ) → finals_within k s ≤ length ms → answers_within reply k s (ms ++ ks) ≡ answers_within reply k s ms
+unfolding answers_within finals_within
+moments_enough reply zero s ms ks few = refl
+moments_enough reply (suc k) s ms ks few =
+    ap (λ (t : List ℕ). interim_of s ++ t) (enough_at reply k s ms ks (turn_of s) few (λ len later fewer. moments_enough reply k (drop len s) later ks fewer))
+
+-- ---- behind an answer that closes
+
+closed_settles : (k : ℕ) (f : ℕ → Bool) (v : Turn) → closed_at v k f ≡ true → v ≢ unfinished
+unfolding closed_at
+closed_settles k f unfinished closed = cc
+closed_settles k f (refused code) closed = λ e. cc
+closed_settles k f (whole a len) closed = λ e. cc
+
+interim_settled : (s t : List ℕ) (v : Verdict) → next_of s ≡ v → turn_of s ≢ unfinished → interim_of (s ++ t) ≡ interim_of s
+interim_settled s t head.more is settled = absurd (settled (turn_more s is))
+interim_settled s t (head.refused code) is settled = interim_stays s t (head.refused code) is (λ e. cc)
+interim_settled s t (head.asked a) is settled = interim_stays s t (head.asked a) is (λ e. cc)
+
+stays_unless : {A : Type 0} (b c : Bool) (x y z : A) → (if b then true else c) ≡ true → (c ≡ true → y ≡ z) → (if b then x else y) ≡ (if b then x else z)
+stays_unless true c x y z closed again = refl
+stays_unless false c x y z closed again = again closed
+
+finals_stay_at : (k : ℕ) (s t : List ℕ) (v : Turn) → turn_of s ≡ v → closed_at v k (λ len. closed_within k (drop len s)) ≡ true
+    → ((len : ℕ) → closed_within k (drop len s) ≡ true → finals_within k (drop len s ++ t) ≡ finals_within k (drop len s))
+    → finals_at (turn_of (s ++ t)) k (λ len. finals_within k (drop len (s ++ t))) ≡ finals_at v k (λ len. finals_within k (drop len s))
+unfolding finals_at closed_at
+finals_stay_at k s t unfinished is closed again = cc
+finals_stay_at k s t (refused code) is closed again = rw (turn_stays s t (λ e. let not = sym is ∙ e in cc), is) refl
+finals_stay_at k s t (whole a len) is closed again =
+    rw (turn_stays s t (λ e. let not = sym is ∙ e in cc), is, drop-append-le len s t (turn_long s a len is))
+    (ap (λ (n : ℕ). 1 + n) (stays_unless (closes a k) (closed_within k (drop len s)) 0 _ _ closed (again len)))
+
+-- behind an answer that closes no further one is called for
+pub finals_stay : (k : ℕ) (s t : List ℕ) → closed_within k s ≡ true → finals_within k (s ++ t) ≡ finals_within k s
+unfolding finals_within closed_within
+finals_stay zero s t closed = refl
+finals_stay (suc k) s t closed = finals_stay_at k s t (turn_of s) refl closed (λ len more. finals_stay k (drop len s) t more)
+
+closed_stay_at : (k : ℕ) (s t : List ℕ) (v : Turn) → turn_of s ≡ v → closed_at v k (λ len. closed_within k (drop len s)) ≡ true
+    → ((len : ℕ) → closed_within k (drop len s) ≡ true → closed_within k (drop len s ++ t) ≡ closed_within k (drop len s))
+    → closed_at (turn_of (s ++ t)) k (λ len. closed_within k (drop len (s ++ t))) ≡ closed_at v k (λ len. closed_within k (drop len s))
+unfolding closed_at
+closed_stay_at k s t unfinished is closed again = cc
+closed_stay_at k s t (refused code) is closed again = rw (turn_stays s t (λ e. let not = sym is ∙ e in cc), is) refl
+closed_stay_at k s t (whole a len) is closed again =
+    rw (turn_stays s t (λ e. let not = sym is ∙ e in cc), is, drop-append-le len s t (turn_long s a len is))
+    (stays_unless (closes a k) (closed_within k (drop len s)) true _ _ closed (again len))
+
+-- and it still closes
+pub closed_stay : (k : ℕ) (s t : List ℕ) → closed_within k s ≡ true → closed_within k (s ++ t) ≡ closed_within k s
+unfolding closed_within
+closed_stay zero s t closed = refl
+closed_stay (suc k) s t closed = closed_stay_at k s t (turn_of s) refl closed (λ len more. closed_stay k (drop len s) t more)
+
+answers_stay_at : (reply : Replying) (k : ℕ) (s t ms : List ℕ) (v : Turn) → turn_of s ≡ v → closed_at v k (λ len. closed_within k (drop len s)) ≡ true
+    → ((len : ℕ) (later : List ℕ) → closed_within k (drop len s) ≡ true → answers_within reply k (drop len s ++ t) later ≡ answers_within reply k (drop len s) later)
+    → answers_at reply (turn_of (s ++ t)) k ms (λ len later. answers_within reply k (drop len (s ++ t)) later)
+    ≡ answers_at reply v k ms (λ len later. answers_within reply k (drop len s) later)
+unfolding answers_at closed_at
+answers_stay_at reply k s t ms unfinished is closed again = cc
+answers_stay_at reply k s t [] (refused code) is closed again = rw (turn_stays s t (λ e. let not = sym is ∙ e in cc), is) refl
+answers_stay_at reply k s t (m ∷ ms) (refused code) is closed again = rw (turn_stays s t (λ e. let not = sym is ∙ e in cc), is) refl
+answers_stay_at reply k s t [] (whole a len) is closed again = rw (turn_stays s t (λ e. let not = sym is ∙ e in cc), is) refl
+answers_stay_at reply k s t (m ∷ ms) (whole a len) is closed again =
+    rw (turn_stays s t (λ e. let not = sym is ∙ e in cc), is, drop-append-le len s t (turn_long s a len is))
+    (ap (λ (u : List ℕ). answer_text (reply a) m (last_word a k) ++ u) (stays_unless (closes a k) (closed_within k (drop len s)) [] _ _ closed (again len ms)))
+
+-- the answers up to one that closes are all, whatever bytes follow
+pub answers_stay : (reply : Replying) (k : ℕ) (s t ms : List ℕ) → closed_within k s ≡ true → answers_within reply k (s ++ t) ms ≡ answers_within reply k s ms
+unfolding answers_within closed_within
+answers_stay reply zero s t ms closed = refl
+answers_stay reply (suc k) s t ms closed =
+    ap (λ (u : List ℕ). u ++ answers_at reply (turn_of (s ++ t)) k ms (λ len later. answers_within reply k (drop len (s ++ t)) later))
+    (interim_settled s t (next_of s) refl (closed_settles k _ (turn_of s) closed))
+    ∙ ap (λ (u : List ℕ). interim_of s ++ u) (answers_stay_at reply k s t ms (turn_of s) refl closed (λ len later more. answers_stay reply k (drop len s) t later more))

@@ -1,5 +1,5 @@
 -- The looks for the file of a reply, one after the other.
-use Rattle.std.proofs.Common.{◌≡◌, ℕ, ◌<◌, ◌≤◌, Bool, true, false, List, length, Option, Some, None, IfSome, refl, sym, ap, ◌∙◌, subst, arith}
+use Rattle.std.proofs.Common.{◌≡◌, ℕ, ◌≤◌, Bool, true, false, List, length, Option, Some, None, IfSome, refl, sym, ap, ◌∙◌, subst}
 use Rattle.std.specs.Prelude.{IsSomeAnd}
 use Rattle.outside.specs.Folder.{Folder, Content, file_at}
 use Rattle.warp_response.specs.declared.response.Content as held
@@ -92,17 +92,6 @@ looked_found moves ends (Some f) request seen old path size mtime is found x =
 no_look : (move : AppMove) (path : List ℕ) → move ≡ look_at path → IsAnswer move → ⊥
 no_look move path is answers = subst IsAnswer is answers
 
-pub looks_fewer : (moves : Moves) → EndsWithTwo moves → (request : RequestText) (seen : Seen) (path : List ℕ) (found : Option (ℕ × ℕ))
-    → moves request seen ≡ look_at path → looks_left (next_seen seen found) < looks_left seen
-looks_fewer moves ends request Nothing path None is = omega arith
-looks_fewer moves ends request Nothing path (Some facts) is = omega arith
-looks_fewer moves ends request (FirstFound size mtime) path None is = omega arith
-looks_fewer moves ends request (FirstFound size mtime) path (Some facts) is = omega arith
-looks_fewer moves ends request FirstAbsent path None is = omega arith
-looks_fewer moves ends request FirstAbsent path (Some facts) is = omega arith
-looks_fewer moves ends request (SecondFound size mtime) path found is = absurd (no_look (moves request (SecondFound size mtime)) path is (ends.found request size mtime))
-looks_fewer moves ends request SecondAbsent path found is = absurd (no_look (moves request SecondAbsent) path is (ends.absent request))
-
 -- ---- the answer
 
 size_of : (folder : Folder) (look : Option Content) (path : Option (List ℕ)) (content : Content) (size : ℕ) (send : Bool) → look ≡ Some content → size ≡ length content.0
@@ -121,12 +110,6 @@ has_file folder (FirstFound n mtime) look path (kept.File size send) fits saw at
 has_file folder FirstAbsent look path (kept.File size send) fits saw at = absurd fits
 has_file folder (SecondFound n mtime) look path (kept.File size send) fits saw at = size_of folder look path saw.0 size send saw.1 (fits ∙ saw.2) at
 has_file folder SecondAbsent look path (kept.File size send) fits saw at = absurd fits
-
--- the file of the answering move was found
-pub file_found : (moves : Moves) (folder : Option Folder) (request : RequestText) (seen : Seen) (path : Option (List ℕ)) (r : Response)
-    → Fits request.target seen r → IfSome folder (λ f. HasLooked moves f request seen path) → IfSome folder (λ f. HasFile f r.content path)
-file_found moves None request seen path r fits x = tt
-file_found moves (Some f) request seen path r fits x = has_file f seen x.found path r.content fits.size x.saw x.at
 
 sent_all : (folder : Folder) (look : Option Content) (path : Option (List ℕ)) (content : Content) (items : List ℕ) → look ≡ Some content → IsAt folder look path
     → IsSomeAnd path (λ p. IsSomeAnd (file_at folder p) (λ c. items ≡ c.0)) → items ≡ content.0

@@ -12,9 +12,9 @@ use Rattle.warp_response.specs.Text.{answer_text, refusal_text}
 use Rattle.conn_loop.specs.Answers.{limit, closes, last_word, answers_of, answers_within, answers_behind, finals_of, finals_within, closed_within, rest_of, rest_within, IsClosed, IsOpen}
 use Rattle.conn_loop.specs.Replying.{Replying}
 use Rattle.conn_loop.specs.Stages.{Stage, unread, short, reading, refusing, ready, finished, answers_left, grown, LiesAhead, IsReading, IsReady, IsWanting, IsReadyStage}
-use Rattle.conn_loop.specs.Standing.{Standing, at_first, Accounts, IsWhole, IsPart, IsPrefix}
+use Rattle.conn_loop.specs.Standing.{Standing, at_first, Accounts, IsWhole, IsPart, IsPrefix, IsShort}
 use Rattle.conn_loop.specs.Turns.{turn_of, unfinished, refused, whole, interim_of}
-use Rattle.conn_loop.proofs.AnswerLemmas.{within_done, behind_done, within_is, within_behind, behind_unfinished, answers_refused, answers_whole, finals_done, finals_unfinished, finals_refused, finals_whole, finals_some, closed_unfinished, closed_refused, closed_whole, closed_done, rest_unfinished, rest_refused, rest_whole, turn_asked, turn_more, interim_is}
+use Rattle.conn_loop.proofs.AnswerLemmas.{within_done, behind_done, within_is, within_behind, behind_unfinished, behind_whole, answers_refused, answers_whole, finals_done, finals_unfinished, finals_refused, finals_whole, finals_some, closed_unfinished, closed_refused, closed_whole, closed_done, rest_unfinished, rest_refused, rest_whole, turn_asked, turn_more, interim_is}
 
 -- ---- the bytes ahead
 
@@ -92,6 +92,18 @@ ready_some k (refusing code) given input ahead some x is = absurd is
 ready_some k (ready a behind) given input ahead some x is =
     finals_some k ahead a x.1.len some (ap (λ (v : List ℕ). turn_of v) (sym (append-nil ahead)) ∙ x.1.is_whole [])
 ready_some k finished given input ahead some x is = absurd is
+
+-- which is none at no moment
+ready_none : (reply : Replying) (k : ℕ) (stage : Stage) (given : Bool) (input ahead : List ℕ) → LiesAhead stage given input ahead → IsReadyStage stage
+    → answers_left given reply k ahead [] ≡ []
+ready_none reply k unread given input ahead x is = absurd is
+ready_none reply k short given input ahead x is = absurd is
+ready_none reply k (reading a reader room) given input ahead x is = absurd is
+ready_none reply k (refusing code) given input ahead x is = absurd is
+ready_none reply k (ready a behind) given input ahead x is =
+    ap (λ (b : Bool). answers_left b reply k ahead []) x.0
+    ∙ behind_whole reply k ahead a x.1.len (ap (λ (v : List ℕ). turn_of v) (sym (append-nil ahead)) ∙ x.1.is_whole [])
+ready_none reply k finished given input ahead x is = absurd is
 
 -- where no final answer may follow, nothing is due
 left_none : (reply : Replying) (given : Bool) (k : ℕ) (s ks : List ℕ) → k ≡ 0 → answers_left given reply k s ks ≡ []
@@ -274,11 +286,17 @@ part_of reply c t s some x = record {
   some = omega (arith, some, length-append c.pending (answers_left x.given reply c.left x.ahead []));
 }
 
+-- with nothing to be written and nothing due, all that was made is sent
+sent_of : (reply : Replying) (c : Standing) (t s : List ℕ) (x : Accounts reply c t s) → c.pending ≡ [] → answers_left x.given reply c.left x.ahead [] ≡ []
+    → s ≡ answers_of reply t c.moments
+sent_of reply c t s x empty none =
+    sym (begins_of reply c t s x ∙ ap (λ (v : List ℕ). s ++ (v ++ answers_left x.given reply c.left x.ahead [])) empty ∙ ap (λ (v : List ℕ). s ++ v) none ∙ append-nil s)
+
 -- with nothing to be written and nothing due, all is written
 whole_of : (reply : Replying) (c : Standing) (t s : List ℕ) (x : Accounts reply c t s) → c.pending ≡ [] → answers_left x.given reply c.left x.ahead [] ≡ []
     → finals_within c.left x.ahead ≡ 0 → IsWhole reply c.moments t s
 whole_of reply c t s x empty none done = record {
-  sent_all = sym (begins_of reply c t s x ∙ ap (λ (v : List ℕ). s ++ (v ++ answers_left x.given reply c.left x.ahead [])) empty ∙ ap (λ (v : List ℕ). s ++ v) none ∙ append-nil s);
+  sent_all = sent_of reply c t s x empty none;
   answered_all = omega (arith, done, counted_of reply c t s x);
 }
 
@@ -297,9 +315,12 @@ whole_wanting reply c t s empty wants x =
     whole_of reply c t s x empty (wanting_none reply c.left c.stage x.given c.input x.ahead x.lies wants)
     (finals_unfinished c.left x.ahead (wanting_turn c.stage x.given c.input x.ahead x.lies wants))
 
--- the bytes ahead call for a final answer that isn't made
-pub fewer_of : (reply : Replying) (c : Standing) (t s : List ℕ) → 0 < c.left → IsReadyStage c.stage → Accounts reply c t s → length c.moments < finals_of t
-fewer_of reply c t s some is x = omega (arith, ready_some c.left c.stage x.given c.input x.ahead some x.lies is, counted_of reply c t s x)
+-- all that was made is written, and the bytes ahead call for a final answer that isn't made
+pub short_of : (reply : Replying) (c : Standing) (t s : List ℕ) → c.pending ≡ [] → 0 < c.left → IsReadyStage c.stage → Accounts reply c t s → IsShort reply c.moments t s
+short_of reply c t s empty some is x = record {
+  sent_made = sent_of reply c t s x empty (ready_none reply c.left c.stage x.given c.input x.ahead x.lies is);
+  fewer = omega (arith, ready_some c.left c.stage x.given c.input x.ahead some x.lies is, counted_of reply c t s x);
+}
 
 -- more is wanted: the connection stays open
 pub open_of : (reply : Replying) (c : Standing) (t s : List ℕ) → 0 < c.left → IsWanting c.stage c.input → Accounts reply c t s → IsOpen t

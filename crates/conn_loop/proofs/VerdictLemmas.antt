@@ -23,10 +23,6 @@ tells_of s v is = subst (λ (w : Verdict). TellsOf s w) is (next_tells s)
 pub short_of : (s : List ℕ) → next_of s ≡ more → length s < 8192
 short_of s is = tells_of s more is
 
--- a head has at most as many bytes as it may
-pub limit_of : (s : List ℕ) (a : Asked) → next_of s ≡ asked a → a.len ≤ 8192
-limit_of s a is = let tells = tells_of s (asked a) is in tells.limit
-
 -- and as many as there are
 pub within_of : (s : List ℕ) (a : Asked) → next_of s ≡ asked a → a.len ≤ length s
 within_of s a is = let tells = tells_of s (asked a) is in tells.within

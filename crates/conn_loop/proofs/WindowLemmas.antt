@@ -1,10 +1,10 @@
 -- The bytes that lie in a room from a place on.
-use Rattle.std.proofs.Common.{◌≡◌, ℕ, ◌+◌, ◌-◌, ◌≤◌, List, [], ◌++◌, length, take, drop, refl, sym, ap, ◌∙◌, arith, Option, option_map}
+use Rattle.std.proofs.Common.{◌≡◌, ℕ, ◌+◌, ◌-◌, ◌≤◌, List, [], ◌++◌, length, take, drop, refl, sym, ap, ◌∙◌, arith}
 use Rattle.std.proofs.lemmas.List.{drop-take, drop-drop, length-take}
 use Rattle.std.proofs.Math.Seq.{take-add}
 use Rattle.outside.specs.declared.link.ReadOut.{ReadOut}
 use Rattle.outside.specs.declared.link.ReadOut.TheVariants.{Got, End, NotYet, Failed}
-use Rattle.outside.specs.Causes.{bytes_got, GivesWithin}
+use Rattle.outside.specs.Causes.{bytes_got, GivesWithin, LinkTold, Read}
 use Rattle.conn_loop.specs.Moves.{Takes, HasSome, got_len}
 
 -- a window that begins later
@@ -51,13 +51,12 @@ piece_is NotYet buf = refl
 piece_is Failed buf = refl
 
 -- a read behind a window
-pub window_takes : (out : ReadOut) (s len : ℕ) (xs ys old : List ℕ) (o p : Option (List ℕ)) → take (s + len) ys ≡ take (s + len) xs → take len (drop s xs) ≡ old
-    → GivesWithin out (drop (s + len) ys) → p ≡ option_map (λ bytes. bytes ++ bytes_got out (drop (s + len) ys)) o
-    → Takes out old (take (len + got_len out) (drop s ys)) o p
-window_takes out s len xs ys old o p same was within told = record {
+pub window_takes : (out : ReadOut) (s len : ℕ) (xs ys old : List ℕ) (k l : LinkTold) → take (s + len) ys ≡ take (s + len) xs → take len (drop s xs) ≡ old
+    → GivesWithin out (drop (s + len) ys) → Read out (bytes_got out (drop (s + len) ys)) k l → Takes out old (take (len + got_len out) (drop s ys)) k l
+window_takes out s len xs ys old k l same was within read = record {
   piece = bytes_got out (drop (s + len) ys);
   grown = window_more s len (got_len out) xs ys old same was ∙ ap (λ (t : List ℕ). old ++ t) (piece_is out (drop (s + len) ys));
-  told = told;
+  read = read;
   long = piece_len out (drop (s + len) ys) within;
   some = piece_some out (drop (s + len) ys) within;
 }

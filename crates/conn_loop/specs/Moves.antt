@@ -1,7 +1,9 @@
 -- What the steps of a connection do to what it holds and to what is told of its link.
-use Rattle.std.specs.Prelude.{◌≡◌, ℕ, ◌+◌, ◌<◌, ◌≤◌, List, [], ◌∷◌, ◌++◌, length, drop, false, Option, option_map, IfSome, if◌then◌else◌}
+use Rattle.std.specs.Prelude.{◌≡◌, ℕ, ◌+◌, ◌<◌, List, [], ◌∷◌, ◌++◌, length, drop, false, Option, IfSome, if◌then◌else◌}
+use Rattle.outside.specs.Causes.{LinkTold, Read}
 use Rattle.outside.specs.Counts.{Rises}
-use Rattle.outside.specs.Moments.{Gains}
+use Rattle.outside.specs.FileCauses.{FilesTold, KeepsFiles}
+use Rattle.outside.specs.Moments.{ClockTold, Gives}
 use Rattle.outside.specs.declared.link.ReadOut.{ReadOut}
 use Rattle.outside.specs.declared.link.ReadOut.TheVariants.{Got, End, NotYet, Failed}
 use Rattle.warp_request.specs.Verdict.{Asked}
@@ -14,7 +16,7 @@ use Rattle.conn_loop.specs.Answers.{closes, last_word}
 use Rattle.conn_loop.specs.Replying.{Replying}
 use Rattle.conn_loop.specs.Stages.{unread, ready}
 use Rattle.conn_loop.specs.Standing.{Standing}
-use Rattle.conn_loop.specs.Writing.{Leaves}
+use Rattle.conn_loop.specs.Writing.{Writes}
 
 -- how many bytes a read gave
 abbrev pub got_len : ReadOut → ℕ
@@ -31,19 +33,16 @@ HasSome NotYet piece = Unit {0}
 HasSome Failed piece = Unit {0}
 
 -- a read puts a piece behind what was there
-pub record Takes (out : ReadOut) (old new : List ℕ) (taken later : Option (List ℕ)) : Type 0 where
+pub record Takes (out : ReadOut) (old new : List ℕ) (link later : LinkTold) : Type 0 where
   pub piece : List ℕ
   pub grown : new ≡ old ++ piece
-  pub told : later ≡ option_map (λ bytes. bytes ++ piece) taken
   pub long : length piece ≡ got_len out
   pub some : HasSome out piece
+  pub read : Read out piece link later
 
 -- the front of what is to be written was written
-pub record Sends (end : WriteEnd) (old new : Standing) (sent later : Option (List ℕ)) : Type 0 where
-  pub front : List ℕ
-  pub split : old.pending ≡ front ++ new.pending
-  pub told : later ≡ option_map (λ bytes. bytes ++ front) sent
-  pub leaves : Leaves end new.pending
+pub record Sends (end : WriteEnd) (old new : Standing) (link later : LinkTold) : Type 0 where
+  pub writes : Writes end old.pending new.pending link later
   pub room : end ≡ All → new.full ≡ false
   pub same : new ≡ record old { pending = new.pending; full = new.full }
 
@@ -72,13 +71,13 @@ pub record Responds (reply : Option Replying) (moment : ℕ) (old new : Standing
   }
 
 -- a request was answered, at the moment that the clock gave; else nothing is changed, and the clock wasn't asked
-abbrev pub AnswersTo : Answered → Option Replying → Standing → Standing → (given later : Option (List ℕ)) → Type 0
-AnswersTo answers.Made reply old new given later = (moment : ℕ) × Responds reply moment old new × Gains given later (moment ∷ [])
-AnswersTo answers.Failed reply old new given later = (new ≡ old) × (later ≡ given)
-AnswersTo answers.NoMemory reply old new given later = (new ≡ old) × (later ≡ given)
+abbrev pub AnswersTo : Answered → Option Replying → Standing → Standing → (clock after : ClockTold) → Type 0
+AnswersTo answers.Made reply old new clock after = (moment : ℕ) × Responds reply moment old new × Gives (moment ∷ []) clock after
+AnswersTo answers.Failed reply old new clock after = (new ≡ old) × (after ≡ clock)
+AnswersTo answers.NoMemory reply old new clock after = (new ≡ old) × (after ≡ clock)
 
--- the files failed only where their count of faults rose, and it never falls
-abbrev pub AnswerFaults : Answered → ℕ → ℕ → Type 0
-AnswerFaults answers.Made old new = old ≤ new
-AnswerFaults answers.Failed old new = (old ≤ new) × Rises old new
-AnswerFaults answers.NoMemory old new = old ≤ new
+-- the files failed only where their count of faults rose
+abbrev pub AnswerFaults : Answered → (files since : FilesTold) → Type 0
+AnswerFaults answers.Made files since = KeepsFiles files since
+AnswerFaults answers.Failed files since = KeepsFiles files since × Rises files.faults since.faults
+AnswerFaults answers.NoMemory files since = KeepsFiles files since

@@ -1,6 +1,7 @@
 -- What is answered to a request, and what a look for its file gives.
-use Rattle.std.specs.Prelude.{◌≡◌, ℕ, ◌≤◌, Bool, true, false, List, [], length, Option, Some, None, IsSomeAnd}
+use Rattle.std.specs.Prelude.{◌≡◌, ℕ, Bool, true, false, List, [], length, Option, Some, None, IsSomeAnd}
 use Rattle.outside.specs.Counts.{Rises}
+use Rattle.outside.specs.FileCauses.{FilesTold, KeepsFiles}
 use Rattle.outside.specs.Folder.{Folder, file_at}
 use Rattle.warp_response.specs.declared.response.Content.{Content}
 use Rattle.warp_response.specs.declared.response.Content.TheVariants as kept
@@ -27,11 +28,11 @@ CanBeSent target (With answer) = IsSendable target answer.response
 CanBeSent target Failed = Unit {0}
 CanBeSent target NoMemory = Unit {0}
 
--- the files failed only where their count of faults rose, and it never falls
-abbrev pub ReplyFaults : Replied → ℕ → ℕ → Type 0
-ReplyFaults (With answer) old new = old ≤ new
-ReplyFaults Failed old new = (old ≤ new) × Rises old new
-ReplyFaults NoMemory old new = old ≤ new
+-- the files failed only where their count of faults rose
+abbrev pub ReplyFaults : Replied → (files since : FilesTold) → Type 0
+ReplyFaults (With answer) files since = KeepsFiles files since
+ReplyFaults Failed files since = KeepsFiles files since × Rises files.faults since.faults
+ReplyFaults NoMemory files since = KeepsFiles files since
 
 -- an answer that was made has this response
 abbrev pub Carries : Response → Replied → Type 0
@@ -75,7 +76,7 @@ abbrev pub Fills : Folder → List ℕ → Bool → List ℕ → Type 0
 Fills folder path true content = IsSomeAnd (file_at folder path) (λ c. content ≡ c.0)
 Fills folder path false content = Unit {0}
 
--- a read failed only where the count of faults rose, and it never falls
-abbrev pub FillFaults : Bool → ℕ → ℕ → Type 0
-FillFaults true old new = old ≤ new
-FillFaults false old new = (old ≤ new) × Rises old new
+-- a read failed only where the count of faults rose
+abbrev pub FillFaults : Bool → (files since : FilesTold) → Type 0
+FillFaults true files since = KeepsFiles files since
+FillFaults false files since = KeepsFiles files since × Rises files.faults since.faults

@@ -3,6 +3,7 @@ use Rattle.std.specs.Prelude.{Option, option_map}
 use Rattle.outside.specs.Folder.{Folder}
 use Rattle.warp_request.specs.Verdict.{Asked}
 use Rattle.warp_response.specs.Reply.{Reply}
+use Rattle.app_trait.specs.FolderReply.{folder_reply}
 use Rattle.app_trait.specs.Moves.{Moves, RequestText}
 use Rattle.app_trait.specs.ReplyTo.{reply_to}
 
@@ -21,3 +22,7 @@ replies_of moves folder a = reply_to moves folder (request_of a)
 -- the same, where the folder is told
 abbrev pub replying : Moves → Option Folder → Option Replying
 replying moves folder = option_map (replies_of moves) folder
+
+-- what is replied to each head with the files of this folder
+unfoldable pub folder_replies : Folder → Replying
+folder_replies folder a = folder_reply folder (request_of a)

@@ -1,5 +1,6 @@
 -- What a connection holds, and for which bytes, taken and sent, it stands.
 use Rattle.std.specs.Prelude.{◌≡◌, ◌≢◌, ◌⊎◌, ℕ, ◌+◌, ◌≤◌, ◌<◌, Bool, true, false, List, [], ◌++◌, length, Option, Some, None, option_map, IfSome}
+use Rattle.outside.specs.Causes.{LinkTold}
 use Rattle.warp_request.specs.Lines.{skip_empty}
 use Rattle.conn_loop.specs.declared.step.Step.{Step}
 use Rattle.conn_loop.specs.declared.step.Step.TheVariants.{WantRead, WantWrite, Done}
@@ -41,6 +42,11 @@ pub record IsPart (reply : Replying) (moments taken sent : List ℕ) : Type 0 wh
   pub begins : answers_of reply taken moments ≡ sent ++ rest
   pub some : 0 < length rest
 
+-- every answer that was made was sent, and more answers are due
+pub record IsShort (reply : Replying) (moments taken sent : List ℕ) : Type 0 where
+  pub sent_made : sent ≡ answers_of reply taken moments
+  pub fewer : length moments < finals_of taken
+
 -- the link has met the end of its input, where it tells so
 abbrev pub HasEnded : Option Bool → Type 0
 HasEnded ended = IfSome ended (λ e. e ≡ true)
@@ -49,18 +55,28 @@ HasEnded ended = IfSome ended (λ e. e ≡ true)
 abbrev pub GoesOn : Option Bool → Type 0
 GoesOn ended = IfSome ended (λ e. e ≡ false)
 
+-- the connection came to a clean end: with all answers sent, one of them closed it, or the input ended between requests
+pub record IsCleanEnd (reply : Replying) (moments taken sent : List ℕ) (ended : Option Bool) : Type 0 where
+  pub whole : IsWhole reply moments taken sent
+  pub over : IsClosed taken ⊎ (IsOpen taken × HasEnded ended × (skip_empty (rest_of taken) ≡ []))
+
+-- the input was cut short: with all answers sent, it ended within a request
+pub record IsCutShort (reply : Replying) (moments taken sent : List ℕ) (ended : Option Bool) : Type 0 where
+  pub whole : IsWhole reply moments taken sent
+  pub goes_on : IsOpen taken
+  pub ended_there : HasEnded ended
+  pub begun : skip_empty (rest_of taken) ≢ []
+
 -- What each step says of the moments and the bytes. No two of them agree, so that each comes exactly where this holds.
 abbrev pub Says : Step → Replying → (moments taken sent : List ℕ) → Option Bool → Type 0
 Says WantRead reply moments taken sent ended = IsWhole reply moments taken sent × IsOpen taken × GoesOn ended
 Says WantWrite reply moments taken sent ended = IsPart reply moments taken sent × GoesOn ended
-Says (Done Clean) reply moments taken sent ended =
-    IsWhole reply moments taken sent × (IsClosed taken ⊎ (IsOpen taken × HasEnded ended × (skip_empty (rest_of taken) ≡ [])))
-Says (Done Cut) reply moments taken sent ended =
-    IsWhole reply moments taken sent × IsOpen taken × HasEnded ended × (skip_empty (rest_of taken) ≢ [])
+Says (Done Clean) reply moments taken sent ended = IsCleanEnd reply moments taken sent ended
+Says (Done Cut) reply moments taken sent ended = IsCutShort reply moments taken sent ended
 Says (Done ReadFault) reply moments taken sent ended = IsWhole reply moments taken sent × IsOpen taken × GoesOn ended
 Says (Done WriteFault) reply moments taken sent ended = IsPart reply moments taken sent × GoesOn ended
-Says (Done FileFault) reply moments taken sent ended = (length moments < finals_of taken) × GoesOn ended
-Says (Done NoMemory) reply moments taken sent ended = (length moments < finals_of taken) × GoesOn ended
+Says (Done FileFault) reply moments taken sent ended = IsShort reply moments taken sent × GoesOn ended
+Says (Done NoMemory) reply moments taken sent ended = IsShort reply moments taken sent × GoesOn ended
 
 -- What was taken is accounted for: whatever bytes and moments follow, the answers to all of it are what was sent, what is
 -- to be written, and the answers to the bytes ahead, which aren't answered.
@@ -91,18 +107,18 @@ pub record IsPrefix (reply : Replying) (moments taken sent : List ℕ) : Type 0 
   pub begins : answers_of reply taken moments ≡ sent ++ rest
   pub counted : length moments ≤ finals_of taken
 
--- a fact of the replies and of the bytes taken and sent, where they are told
-abbrev pub Told : Option Replying → Option (List ℕ) → Option (List ℕ) → (Replying → List ℕ → List ℕ → Type 0) → Type 0
-Told reply taken sent P = IfSome reply (λ r. IfSome taken (λ t. IfSome sent (λ s. P r t s)))
+-- a fact of the replies and of the bytes that a link has taken and sent, where they are told
+abbrev pub Told : Option Replying → LinkTold → (Replying → List ℕ → List ℕ → Type 0) → Type 0
+Told reply link P = IfSome reply (λ r. IfSome link.taken (λ t. IfSome link.sent (λ s. P r t s)))
 
 -- a connection stands for what its link tells
-abbrev pub StandsFor : Option Replying → Standing → Option (List ℕ) → Option (List ℕ) → Option Bool → Type 0
-StandsFor reply c taken sent ended = Told reply taken sent (λ r t s. Stands r c t s ended)
+abbrev pub StandsFor : Option Replying → Standing → LinkTold → Type 0
+StandsFor reply c link = Told reply link (λ r t s. Stands r c t s link.ended)
 
 -- what its link tells as sent is a prefix of the answers
-abbrev pub IsPrefixFor : Option Replying → Standing → Option (List ℕ) → Option (List ℕ) → Type 0
-IsPrefixFor reply c taken sent = Told reply taken sent (λ r t s. IsPrefix r c.moments t s)
+abbrev pub IsPrefixFor : Option Replying → Standing → LinkTold → Type 0
+IsPrefixFor reply c link = Told reply link (λ r t s. IsPrefix r c.moments t s)
 
 -- the step says so of what its link tells
-abbrev pub SaysFor : Step → Option Replying → Standing → Option (List ℕ) → Option (List ℕ) → Option Bool → Type 0
-SaysFor step reply c taken sent ended = Told reply taken sent (λ r t s. Says step r c.moments t s ended)
+abbrev pub SaysFor : Step → Option Replying → Standing → LinkTold → Type 0
+SaysFor step reply c link = Told reply link (λ r t s. Says step r c.moments t s link.ended)

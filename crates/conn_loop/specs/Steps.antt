@@ -1,6 +1,7 @@
 -- How far a part of a call brings a connection: it goes on, or a step is answered.
-use Rattle.std.specs.Prelude.{◌≡◌, ℕ, ◌+◌, ◌*◌, ◌<◌, ◌≤◌, List, Bool, Option, Some, None, IfSome}
-use Rattle.outside.specs.Counts.{Counts}
+use Rattle.std.specs.Prelude.{◌≡◌, ℕ, ◌+◌, ◌*◌, ◌<◌, List, Bool, Option, Some, None, IfSome}
+use Rattle.outside.specs.Causes.{LinkTold, KeepsLink}
+use Rattle.outside.specs.FileCauses.{FilesTold}
 use Rattle.conn_loop.specs.declared.step.Step.{Step}
 use Rattle.conn_loop.specs.declared.step.Step.TheVariants.{WantRead, WantWrite, Done}
 use Rattle.outside.specs.declared.link.ReadOut.{ReadOut}
@@ -8,7 +9,7 @@ use Rattle.outside.specs.declared.link.ReadOut.TheVariants as read
 use Rattle.conn_loop.specs.Stages.{Stage, finished, body_steps, grown, steps_left, IsReadyStage}
 use Rattle.conn_loop.specs.declared.step.End.{End}
 use Rattle.conn_loop.specs.declared.step.End.TheVariants.{Clean, Cut, ReadFault, WriteFault, FileFault, NoMemory}
-use Rattle.conn_loop.specs.Causes.{HasFault, CountsWaits}
+use Rattle.conn_loop.specs.Causes.{HasFault, CountsWaits, Keeps}
 use Rattle.conn_loop.specs.Replying.{Replying}
 use Rattle.conn_loop.specs.Standing.{Standing, Accounts, IsAt, Told}
 
@@ -18,28 +19,25 @@ pub record Comes (result : Option Step) (reply : Replying) (c : Standing) (taken
   pub at : IsAt result reply c.moments taken sent ended
 
 -- the same of what its link tells
-abbrev pub ComesFor : Option Step → Option Replying → Standing → Option (List ℕ) → Option (List ℕ) → Option Bool → Type 0
-ComesFor result reply c taken sent ended = Told reply taken sent (λ r t s. Comes result r c t s ended)
+abbrev pub ComesFor : Option Step → Option Replying → Standing → LinkTold → Type 0
+ComesFor result reply c link = Told reply link (λ r t s. Comes result r c t s link.ended)
 
 -- a wait was counted where one is answered, and else none
-abbrev pub CountsFor : Option Step → (waits waited : Counts) → Type 0
-CountsFor None waits waited = waited ≡ waits
-CountsFor (Some step) waits waited = CountsWaits step waits waited
+abbrev pub CountsFor : Option Step → (link later : LinkTold) → Type 0
+CountsFor None link later = later.waits ≡ link.waits
+CountsFor (Some step) link later = CountsWaits step link later
 
--- the counts of the link's faults never fall; a step that is answered has its cause in them, and in those of its waits
-pub record Goes (result : Option Step) (faults faulted waits waited : Counts) : Type 0 where
-  pub reads : faults.reads ≤ faulted.reads
-  pub writes : faults.writes ≤ faulted.writes
-  pub cause : IfSome result (λ step. HasFault step faults faulted 0 0)
-  pub counts : CountsFor result waits waited
+-- a part of a call that files have no part in: a step that is answered has its cause in the link's counts
+pub record Goes (result : Option Step) (link later : LinkTold) : Type 0 where
+  pub keeps : KeepsLink link later
+  pub cause : (files since : FilesTold) → IfSome result (λ step. HasFault step link later files since)
+  pub counts : CountsFor result link later
 
--- the same, over files whose count of faults never falls either
-pub record GoesOver (result : Option Step) (faults faulted waits waited : Counts) (files later : ℕ) : Type 0 where
-  pub reads : faults.reads ≤ faulted.reads
-  pub writes : faults.writes ≤ faulted.writes
-  pub files_later : files ≤ later
-  pub cause : IfSome result (λ step. HasFault step faults faulted files later)
-  pub counts : CountsFor result waits waited
+-- the same, over files
+pub record GoesOver (result : Option Step) (link later : LinkTold) (files since : FilesTold) : Type 0 where
+  pub keeps : Keeps link later files since
+  pub cause : IfSome result (λ step. HasFault step link later files since)
+  pub counts : CountsFor result link later
 
 -- how a connection may end once its answers are written
 abbrev pub MayEnd : End → Standing → Type 0
@@ -51,11 +49,10 @@ MayEnd FileFault c = (0 < c.left) × IsReadyStage c.stage
 MayEnd NoMemory c = (0 < c.left) × IsReadyStage c.stage
 
 -- it ends so, or a step comes that its link is the cause of
-pub record EndsWith (end : End) (result : Step) (faults faulted waits waited : Counts) : Type 0 where
-  pub reads : faults.reads ≤ faulted.reads
-  pub writes : faults.writes ≤ faulted.writes
-  pub cause : (files later : ℕ) → HasFault (Done end) faults faulted files later → HasFault result faults faulted files later
-  pub counts : CountsWaits result waits waited
+pub record EndsWith (end : End) (result : Step) (link later : LinkTold) : Type 0 where
+  pub keeps : KeepsLink link later
+  pub cause : (files since : FilesTold) → HasFault (Done end) link later files since → HasFault result link later files since
+  pub counts : CountsWaits result link later
 
 -- how many steps are left until the connection closes, at most
 abbrev pub to_go : Standing → ℕ

@@ -1,7 +1,7 @@
 // A queue of bytes in a fixed room: it takes at its end and gives at its front. Bytes stay where they lie until the
 // room behind them runs out, so that a request is parsed where it was read and a run of requests moves nothing.
-ghost use Rattle.std.specs.Prelude.{◌≡◌, ◌≤◌, ◌<◌, ◌+◌, ◌-◌, ◌++◌, ◌||◌, ℕ, List, [], IfOk, length, take, drop, option_map};
-ghost use Rattle.outside.specs.Causes.{GivesWithin, bytes_got, is_end, ReadFaults, ReadWaits};
+ghost use Rattle.std.specs.Prelude.{◌≡◌, ◌≤◌, ◌<◌, ◌+◌, ◌-◌, ◌++◌, [], IfOk, length, take, drop};
+ghost use Rattle.outside.specs.Causes.{GivesWithin, Read, bytes_got};
 ghost use Rattle.conn_loop.specs.Moves.{Takes, got_len};
 
 use outside::{Link, ReadOut};
@@ -89,12 +89,7 @@ impl Buffer {
     /// Reads from the link behind the bytes. The caller owes that there is room.
     pub(crate) fn fill<L: Link>(&mut self, link: &mut L) -> ReadOut
         requires { length self.old < ROOM }
-        ensures takes { Takes result self.old self.new (L.taken link.old) (L.taken link.new) }
-        ensures sends { L.sent link.new ≡ L.sent link.old }
-        ensures ends { L.ended link.new ≡ option_map (λ e. e || is_end result) (L.ended link.old) }
-        ensures plans { L.plan link.new ≡ L.plan link.old }
-        ensures faulted { ReadFaults result (L.faults link.old) (L.faults link.new) }
-        ensures waited { ReadWaits result (L.waits link.old) (L.waits link.new) }
+        ensures { Takes result self.old self.new (L.told link.old) (L.told link.new) }
     {
         let (start, out) = read_behind(link, &mut self.room, self.start, self.end);
         self.end = start + (self.end - self.start) + got_len(out);
@@ -147,13 +142,8 @@ fn read_behind<L: Link>(link: &mut L, room: &mut [u8], start: usize, end: usize)
     requires inside { end ≤ length room.old }
     requires fits { (end - start) < length room.old }
     ensures takes { Takes result.1 (take (end - start) (drop start room.old)) (take (end - start + got_len result.1) (drop result.0 room.new))
-        (L.taken link.old) (L.taken link.new) }
+        (L.told link.old) (L.told link.new) }
     ensures fits { result.0 + (end - start) + got_len result.1 ≤ length room.new }
-    ensures sends { L.sent link.new ≡ L.sent link.old }
-    ensures ends { L.ended link.new ≡ option_map (λ e. e || is_end result.1) (L.ended link.old) }
-    ensures plans { L.plan link.new ≡ L.plan link.old }
-    ensures faulted { ReadFaults result.1 (L.faults link.old) (L.faults link.new) }
-    ensures waited { ReadWaits result.1 (L.waits link.old) (L.waits link.new) }
 {
     let start_now = make_room(room, start, end, 1);
     let out = read_at(link, room, start_now + (end - start));
@@ -175,12 +165,7 @@ fn read_at<L: Link>(link: &mut L, room: &mut [u8], at: usize) -> ReadOut
     requires { at < length room.old }
     ensures within { GivesWithin result (drop at room.new) }
     ensures before { take at room.new ≡ take at room.old }
-    ensures takes { L.taken link.new ≡ option_map (λ bytes. bytes ++ bytes_got result (drop at room.new)) (L.taken link.old) }
-    ensures sends { L.sent link.new ≡ L.sent link.old }
-    ensures ends { L.ended link.new ≡ option_map (λ e. e || is_end result) (L.ended link.old) }
-    ensures plans { L.plan link.new ≡ L.plan link.old }
-    ensures faulted { ReadFaults result (L.faults link.old) (L.faults link.new) }
-    ensures waited { ReadWaits result (L.waits link.old) (L.waits link.new) }
+    ensures read { Read result (bytes_got result (drop at room.new)) (L.told link.old) (L.told link.new) }
 {
     link.read(&mut room[at..])
 }

@@ -1,6 +1,6 @@
 // One connection, brought as far as the link, the files and the memory let it go.
 ghost use Rattle.std.specs.Prelude.{◌≡◌, ◌≤◌, ◌<◌, ◌+◌, ◌↔◌, IsTrue, Bool, [], Option, Some, None, IfOk, IfSome, IfNone};
-ghost use Rattle.conn_loop.specs.Causes.{HasFault, CountsWaits, Clocked, end_of};
+ghost use Rattle.conn_loop.specs.Causes.{HasFault, CountsWaits, Clocked, Keeps, end_of};
 ghost use Rattle.conn_loop.specs.Replying.{Replying, replying};
 ghost use Rattle.conn_loop.specs.Standing.{Stands, StandsFor, IsPrefixFor, SaysFor, GoesOn, at_first};
 ghost use Rattle.conn_loop.specs.Steps.{ComesFor, GoesOver, stage_kept, to_go};
@@ -96,25 +96,24 @@ impl<F: Files> Conn<F> {
         clock: &mut C,
         scratch: &mut Scratch,
     ) -> Step
-        requires { StandsFor (replying (A.moves app.now) F.folder) self.old (L.taken link.old) (L.sent link.old) (L.ended link.old) }
+        requires { StandsFor (replying (A.moves app.now) F.folder) self.old (L.told link.old) }
         // The connection stands for what the link has taken and sent.
-        ensures stands { StandsFor (replying (A.moves app.now) F.folder) self.new (L.taken link.new) (L.sent link.new) (L.ended link.new) }
+        ensures stands { StandsFor (replying (A.moves app.now) F.folder) self.new (L.told link.new) }
         // What was sent is a prefix of the answers to what was taken.
-        ensures prefix { IsPrefixFor (replying (A.moves app.now) F.folder) self.new (L.taken link.new) (L.sent link.new) }
+        ensures prefix { IsPrefixFor (replying (A.moves app.now) F.folder) self.new (L.told link.new) }
         // Each step comes exactly where this holds of the bytes.
-        ensures says { SaysFor result (replying (A.moves app.now) F.folder) self.new (L.taken link.new) (L.sent link.new) (L.ended link.new) }
-        // The moments are those that the clock gave.
-        ensures clocked { Clocked self.old self.new (C.given clock.old) (C.given clock.new) }
+        ensures says { SaysFor result (replying (A.moves app.now) F.folder) self.new (L.told link.new) }
+        // The moments are those that the clock gave, whose stillness stays.
+        ensures clocked { Clocked self.old self.new (C.told clock.old) (C.told clock.new) }
         // A fault comes only where the count of its own object and direction rose in this call.
-        ensures cause { IfNone self.old.over (HasFault result (L.faults link.old) (L.faults link.new) (F.faults files.old) (F.faults files.new)) }
+        ensures cause { IfNone self.old.over (HasFault result (L.told link.old) (L.told link.new) (F.told files.old) (F.told files.new)) }
         // A wait is answered exactly where the link told one of that direction, and there is at most one.
-        ensures waited { CountsWaits result (L.waits link.old) (L.waits link.new) }
+        ensures waited { CountsWaits result (L.told link.old) (L.told link.new) }
         // What ended stays so, and touches nothing.
         ensures over { (self.new.over ≡ end_of result) × IfSome self.old.over (λ end.
             (result ≡ Step.Done end) × (self.new ≡ self.old) × (link.new ≡ link.old) × (files.new ≡ files.old) × (clock.new ≡ clock.old)) }
-        // What the link plans, the root and the firmness of the files and the stillness of the clock stay.
-        ensures frames { (L.plan link.new ≡ L.plan link.old) × (F.rooted files.new ≡ F.rooted files.old) × (F.firm files.new ≡ F.firm files.old)
-            × (C.still clock.new ≡ C.still clock.old) }
+        // What the link plans, the root and the firmness of the files stay, and no count of faults falls.
+        ensures keeps { Keeps (L.told link.old) (L.told link.new) (F.told files.old) (F.told files.new) }
     {
         if let Some(end) = self.over() {
             return Step::Done(end);
@@ -154,16 +153,11 @@ impl<F: Files> Conn<F> {
         scratch: &mut Scratch,
     ) -> Step
         requires running { self.old.over ≡ None }
-        requires stands { ComesFor None (replying (A.moves app.now) F.folder) self.old (L.taken link.old) (L.sent link.old) (L.ended link.old) }
-        ensures stands { ComesFor (Some result) (replying (A.moves app.now) F.folder) self.new (L.taken link.new) (L.sent link.new) (L.ended link.new) }
+        requires stands { ComesFor None (replying (A.moves app.now) F.folder) self.old (L.told link.old) }
+        ensures stands { ComesFor (Some result) (replying (A.moves app.now) F.folder) self.new (L.told link.new) }
         ensures running { self.new.over ≡ None }
-        ensures clocked { Clocked self.old self.new (C.given clock.old) (C.given clock.new) }
-        ensures cause { HasFault result (L.faults link.old) (L.faults link.new) (F.faults files.old) (F.faults files.new) }
-        ensures waited { CountsWaits result (L.waits link.old) (L.waits link.new) }
-        ensures plans { L.plan link.new ≡ L.plan link.old }
-        ensures rooted { F.rooted files.new ≡ F.rooted files.old }
-        ensures firm { F.firm files.new ≡ F.firm files.old }
-        ensures still { C.still clock.new ≡ C.still clock.old }
+        ensures clocked { Clocked self.old self.new (C.told clock.old) (C.told clock.new) }
+        ensures goes { GoesOver (Some result) (L.told link.old) (L.told link.new) (F.told files.old) (F.told files.new) }
     {
         'requests: while !self.is_closed() {
             if let Some(step) = self.step(link, files, app, clock, scratch) {
@@ -184,16 +178,12 @@ impl<F: Files> Conn<F> {
     ) -> Option<Step>
         requires running { self.old.over ≡ None }
         requires some { 0 < self.old.left }
-        ensures stands { ComesFor None (replying (A.moves app.now) F.folder) self.old (L.taken link.old) (L.sent link.old) (L.ended link.old)
-            → ComesFor result (replying (A.moves app.now) F.folder) self.new (L.taken link.new) (L.sent link.new) (L.ended link.new) }
+        ensures stands { ComesFor None (replying (A.moves app.now) F.folder) self.old (L.told link.old)
+            → ComesFor result (replying (A.moves app.now) F.folder) self.new (L.told link.new) }
         ensures running { self.new.over ≡ None }
         ensures nearer { IfNone result (to_go self.new < to_go self.old) }
-        ensures clocked { Clocked self.old self.new (C.given clock.old) (C.given clock.new) }
-        ensures goes { GoesOver result (L.faults link.old) (L.faults link.new) (L.waits link.old) (L.waits link.new) (F.faults files.old) (F.faults files.new) }
-        ensures plans { L.plan link.new ≡ L.plan link.old }
-        ensures rooted { F.rooted files.new ≡ F.rooted files.old }
-        ensures firm { F.firm files.new ≡ F.firm files.old }
-        ensures still { C.still clock.new ≡ C.still clock.old }
+        ensures clocked { Clocked self.old self.new (C.told clock.old) (C.told clock.new) }
+        ensures goes { GoesOver result (L.told link.old) (L.told link.new) (F.told files.old) (F.told files.new) }
     {
         if let Some(step) = self.make_room(link) {
             return Some(step);

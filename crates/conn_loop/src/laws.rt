@@ -1,7 +1,9 @@
 // What holds of the answers as they are defined, whatever computes them.
-ghost use Rattle.std.specs.Prelude.{◌++◌, ℕ, List};
-ghost use Rattle.conn_loop.specs.Answers.{BeginsWith, answers_of};
+ghost use Rattle.std.specs.Prelude.{◌≡◌, ◌≤◌, ◌++◌, ℕ, List, [], Option, length};
+ghost use Rattle.outside.specs.Causes.{LinkTold};
+ghost use Rattle.conn_loop.specs.Answers.{BeginsWith, IsClosed, IsOpen, answers_of, finals_of};
 ghost use Rattle.conn_loop.specs.Replying.{Replying};
+ghost use Rattle.conn_loop.specs.Standing.{IsPrefixFor, Standing, StandsFor};
 
 /// Where more bytes come, the answers go on: what was answered stays.
 pub fn answers_grow_with_bytes()
@@ -11,4 +13,26 @@ pub fn answers_grow_with_bytes()
 /// Where more moments come, the answers go on.
 pub fn answers_grow_with_moments()
     ensures { (reply : Replying) (s moments later : List ℕ) → BeginsWith (answers_of reply s (moments ++ later)) (answers_of reply s moments) }
+{}
+
+/// Moments beyond those that the bytes call for change nothing.
+pub fn answers_take_no_more_moments()
+    ensures { (reply : Replying) (s moments later : List ℕ) → finals_of s ≤ length moments → answers_of reply s (moments ++ later) ≡ answers_of reply s moments }
+{}
+
+/// Behind an answer that closes, no bytes are answered.
+pub fn closed_stays()
+    ensures closed { (s t : List ℕ) → IsClosed s → IsClosed (s ++ t) }
+    ensures finals { (s t : List ℕ) → IsClosed s → finals_of (s ++ t) ≡ finals_of s }
+    ensures answers { (reply : Replying) (s t moments : List ℕ) → IsClosed s → answers_of reply (s ++ t) moments ≡ answers_of reply s moments }
+{}
+
+/// No bytes close nothing.
+pub fn nothing_is_open()
+    ensures { IsOpen [] }
+{}
+
+/// What a connection has sent is a prefix of the answers, also between its calls.
+pub fn sent_is_a_prefix()
+    ensures { (reply : Option Replying) (conn : Standing) (link : LinkTold) → StandsFor reply conn link → IsPrefixFor reply conn link }
 {}

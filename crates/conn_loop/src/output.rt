@@ -7,7 +7,7 @@ ghost use Rattle.warp_response.specs.Head.{head_text};
 ghost use Rattle.warp_response.specs.Reply.{Reply, head_of, IsResponseFor, IsSendable};
 ghost use Rattle.warp_response.specs.Text.{interim_text};
 ghost use Rattle.conn_loop.specs.Outgoing.{Outgoing, nothing, pending_of, is_held, is_full as is_full_of, Puts};
-ghost use Rattle.conn_loop.specs.Writing.{Writes, CountsWrites};
+ghost use Rattle.conn_loop.specs.Writing.{Writes};
 
 use crate::buffer::{Buffer, ROOM};
 use crate::writing::{WriteEnd, write_out};
@@ -148,11 +148,7 @@ impl Output {
 
     /// Writes all of it, as far as the link takes it.
     pub(crate) fn flush<L: Link>(&mut self, link: &mut L) -> WriteEnd
-        ensures writes { Writes result (pending_of self.old) (pending_of self.new) (L.sent link.old) (L.sent link.new) }
-        ensures counts { CountsWrites result (L.faults link.old) (L.faults link.new) (L.waits link.old) (L.waits link.new) }
-        ensures takes { L.taken link.new ≡ L.taken link.old }
-        ensures ends { L.ended link.new ≡ L.ended link.old }
-        ensures plans { L.plan link.new ≡ L.plan link.old }
+        ensures { Writes result (pending_of self.old) (pending_of self.new) (L.told link.old) (L.told link.new) }
     {
         match self.flush_gathered(link) {
             WriteEnd::All => {}
@@ -167,12 +163,8 @@ impl Output {
 
     /// Writes what is gathered.
     fn flush_gathered<L: Link>(&mut self, link: &mut L) -> WriteEnd
-        ensures writes { Writes result self.old.gathered self.new.gathered (L.sent link.old) (L.sent link.new) }
+        ensures writes { Writes result self.old.gathered self.new.gathered (L.told link.old) (L.told link.new) }
         ensures same { self.new ≡ record self.old { gathered = self.new.gathered } }
-        ensures counts { CountsWrites result (L.faults link.old) (L.faults link.new) (L.waits link.old) (L.waits link.new) }
-        ensures takes { L.taken link.new ≡ L.taken link.old }
-        ensures ends { L.ended link.new ≡ L.ended link.old }
-        ensures plans { L.plan link.new ≡ L.plan link.old }
     {
         let (n, end) = write_out(link, self.gathered.bytes());
         self.gathered.skip(n);
@@ -181,12 +173,8 @@ impl Output {
 
     /// Writes what stands beside the buffer: the head, then the content.
     fn flush_held<L: Link>(&mut self, link: &mut L) -> WriteEnd
-        ensures writes { Writes result (self.old.head ++ self.old.content) (self.new.head ++ self.new.content) (L.sent link.old) (L.sent link.new) }
+        ensures writes { Writes result (self.old.head ++ self.old.content) (self.new.head ++ self.new.content) (L.told link.old) (L.told link.new) }
         ensures same { self.new.gathered ≡ self.old.gathered }
-        ensures counts { CountsWrites result (L.faults link.old) (L.faults link.new) (L.waits link.old) (L.waits link.new) }
-        ensures takes { L.taken link.new ≡ L.taken link.old }
-        ensures ends { L.ended link.new ≡ L.ended link.old }
-        ensures plans { L.plan link.new ≡ L.plan link.old }
     {
         match self.flush_head(link) {
             WriteEnd::All => self.flush_content(link),
@@ -196,12 +184,8 @@ impl Output {
 
     /// Writes the head.
     fn flush_head<L: Link>(&mut self, link: &mut L) -> WriteEnd
-        ensures writes { Writes result self.old.head self.new.head (L.sent link.old) (L.sent link.new) }
+        ensures writes { Writes result self.old.head self.new.head (L.told link.old) (L.told link.new) }
         ensures same { self.new ≡ record self.old { head = self.new.head } }
-        ensures counts { CountsWrites result (L.faults link.old) (L.faults link.new) (L.waits link.old) (L.waits link.new) }
-        ensures takes { L.taken link.new ≡ L.taken link.old }
-        ensures ends { L.ended link.new ≡ L.ended link.old }
-        ensures plans { L.plan link.new ≡ L.plan link.old }
     {
         let (n, end) = write_out(link, &self.head.bytes()[self.head_at..]);
         self.head_at += n;
@@ -210,12 +194,8 @@ impl Output {
 
     /// Writes the content.
     fn flush_content<L: Link>(&mut self, link: &mut L) -> WriteEnd
-        ensures writes { Writes result self.old.content self.new.content (L.sent link.old) (L.sent link.new) }
+        ensures writes { Writes result self.old.content self.new.content (L.told link.old) (L.told link.new) }
         ensures same { self.new ≡ record self.old { content = self.new.content } }
-        ensures counts { CountsWrites result (L.faults link.old) (L.faults link.new) (L.waits link.old) (L.waits link.new) }
-        ensures takes { L.taken link.new ≡ L.taken link.old }
-        ensures ends { L.ended link.new ≡ L.ended link.old }
-        ensures plans { L.plan link.new ≡ L.plan link.old }
     {
         let (n, end) = write_out(link, &self.content[self.content_at..]);
         self.content_at += n;

@@ -1,7 +1,7 @@
 // What is answered to a request: the application's response, and the content of its file, read whole.
 ghost use Rattle.std.specs.Prelude.{◌≡◌, ◌≤◌, ◌<◌, IfSome, IsSomeAnd, option_map, length, take, drop};
 ghost use Rattle.outside.specs.Folder.{file_at};
-ghost use Rattle.outside.specs.FileCauses.{ReadsFrom, PartWithin, PartFaults};
+ghost use Rattle.outside.specs.FileCauses.{ReadsFrom, PartWithin, ReadPart};
 ghost use Rattle.app_trait.specs.Moves.{text_of};
 ghost use Rattle.app_trait.specs.ReplyTo.{reply_to};
 ghost use Rattle.conn_loop.specs.Replies.{Replies, CanBeSent, ReplyFaults, Carries, HasFile, CarriesFile, CarriesAll, Fills, FillFaults};
@@ -41,9 +41,7 @@ pub(crate) fn reply<F: Files, A: App>(
     requires { length request.now.target.now ≤ 8192 }
     ensures replies { IfSome F.folder (λ f. Replies (reply_to (A.moves app.now) f (text_of request.now)) request.now.target.now result) }
     ensures sendable { CanBeSent request.now.target.now result }
-    ensures faulted { ReplyFaults result (F.faults files.old) (F.faults files.new) }
-    ensures rooted { F.rooted files.new ≡ F.rooted files.old }
-    ensures firm { F.firm files.new ≡ F.firm files.old }
+    ensures faulted { ReplyFaults result (F.told files.old) (F.told files.new) }
 {
     let mut seen = Seen::Nothing;
     let mut found = None;
@@ -77,9 +75,7 @@ fn with_content<F: Files>(
     requires { IfSome F.folder (λ f. HasFile f response.content (option_map F.file_path found)) }
     ensures response { Carries response result }
     ensures content { IfSome F.folder (λ f. CarriesFile f response.content (option_map F.file_path found) result) }
-    ensures faulted { ReplyFaults result (F.faults files.old) (F.faults files.new) }
-    ensures rooted { F.rooted files.new ≡ F.rooted files.old }
-    ensures firm { F.firm files.new ≡ F.firm files.old }
+    ensures faulted { ReplyFaults result (F.told files.old) (F.told files.new) }
 {
     match (response.content, found) {
         (Content::File { size, send: true }, Some(file)) => {
@@ -103,9 +99,7 @@ fn load<F: Files>(
     requires { IfSome F.folder (λ f. IsSomeAnd (file_at f (F.file_path file)) (λ c. size ≡ length c.0)) }
     ensures response { Carries response result }
     ensures content { IfSome F.folder (λ f. CarriesAll f (F.file_path file) result) }
-    ensures faulted { ReplyFaults result (F.faults files.old) (F.faults files.new) }
-    ensures rooted { F.rooted files.new ≡ F.rooted files.old }
-    ensures firm { F.firm files.new ≡ F.firm files.old }
+    ensures faulted { ReplyFaults result (F.told files.old) (F.told files.new) }
 {
     let Ok(mut content) = Vec::from_elem(alloc, 0u8, size as usize) else {
         return Replied::NoMemory;
@@ -121,9 +115,7 @@ fn load<F: Files>(
 fn fill_from<F: Files>(files: &mut F, file: &mut F::File, content: &mut [u8]) -> bool
     requires { IfSome F.folder (λ f. IsSomeAnd (file_at f (F.file_path file.old)) (λ c. length c.0 ≡ length content.old)) }
     ensures fills { IfSome F.folder (λ f. Fills f (F.file_path file.old) result content.new) }
-    ensures faulted { FillFaults result (F.faults files.old) (F.faults files.new) }
-    ensures rooted { F.rooted files.new ≡ F.rooted files.old }
-    ensures firm { F.firm files.new ≡ F.firm files.old }
+    ensures faulted { FillFaults result (F.told files.old) (F.told files.new) }
 {
     let mut at = 0;
     while at < content.len() {
@@ -143,9 +135,7 @@ fn read_part<F: Files>(files: &mut F, file: &mut F::File, at: usize, content: &m
     ensures same { take at content.new ≡ take at content.old }
     ensures reads { IfSome F.folder (λ f. ReadsFrom f (F.file_path file.old) at (drop at content.new) result) }
     ensures path { F.file_path file.new ≡ F.file_path file.old }
-    ensures faulted { PartFaults result (F.faults files.old) (F.faults files.new) }
-    ensures rooted { F.rooted files.new ≡ F.rooted files.old }
-    ensures firm { F.firm files.new ≡ F.firm files.old }
+    ensures read { ReadPart result (F.told files.old) (F.told files.new) }
 {
     files.read_at(file, at as u64, &mut content[at..])
 }

@@ -1,11 +1,12 @@
 // What a connection writes over a link, files and a clock in memory, and in how many writes.
-ghost use Rattle.std.specs.Prelude.{◌≡◌, Some, [], false};
+ghost use Rattle.std.specs.Prelude.{◌≡◌};
 ghost use Rattle.outside.specs.MemFolder.{folder_in};
+ghost use Rattle.outside.specs.PieceLink.{fresh_told, told_of};
 ghost use Rattle.outside.specs.ReadScript.{EachFilled};
 
 use crate::{Conn, End, Step};
 use app_trait::FolderApp;
-use outside::{Link, MemClock, MemFile, MemFiles, PieceLink, Place, ReadEvent, WriteEvent};
+use outside::{MemClock, MemFile, MemFiles, PieceLink, Place, ReadEvent, WriteEvent};
 use std::alloc::{AllocError, Global};
 use std::marker::Brand;
 use std::test::Fail;
@@ -28,9 +29,7 @@ fn two_steps<K: Place>(
     mut link: PieceLink,
 ) -> Result<(Step, Step, PieceLink), AllocError>
     requires folder { folder_in contents.items ≡ K.folder }
-    requires taken { ⟦<PieceLink as Link>⟧.taken link ≡ Some [] }
-    requires sent { ⟦<PieceLink as Link>⟧.sent link ≡ Some [] }
-    requires ended { ⟦<PieceLink as Link>⟧.ended link ≡ Some false }
+    requires fresh { told_of link ≡ fresh_told }
 {
     let mut files = MemFiles::<K>::new(alloc, contents, true, Vec::new(alloc));
     let mut clock = MemClock::new(vec![in alloc; 784_111_777]?);

@@ -1,6 +1,6 @@
 // Writing a piece as far as the link takes it.
-ghost use Rattle.std.specs.Prelude.{◌≡◌, ◌≤◌, length, drop};
-ghost use Rattle.conn_loop.specs.Writing.{Writes, CountsWrites};
+ghost use Rattle.std.specs.Prelude.{◌≤◌, length, drop};
+ghost use Rattle.conn_loop.specs.Writing.{Writes};
 
 use outside::{Link, WriteOut};
 
@@ -18,11 +18,7 @@ pub(crate) enum WriteEnd {
 /// Writes the bytes, as far as the link takes them, and says how many it took.
 pub(crate) fn write_out<L: Link>(link: &mut L, bytes: &[u8]) -> (usize, WriteEnd)
     ensures within { result.0 ≤ length bytes.now }
-    ensures writes { Writes result.1 bytes.now (drop result.0 bytes.now) (L.sent link.old) (L.sent link.new) }
-    ensures counts { CountsWrites result.1 (L.faults link.old) (L.faults link.new) (L.waits link.old) (L.waits link.new) }
-    ensures takes { L.taken link.new ≡ L.taken link.old }
-    ensures ends { L.ended link.new ≡ L.ended link.old }
-    ensures plans { L.plan link.new ≡ L.plan link.old }
+    ensures writes { Writes result.1 bytes.now (drop result.0 bytes.now) (L.told link.old) (L.told link.new) }
 {
     let mut at = 0;
     while at < bytes.len() {

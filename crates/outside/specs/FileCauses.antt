@@ -1,5 +1,6 @@
--- What an answer of the files says: of the folder, of the root, and of the count by which a fault is known.
-use Rattle.std.specs.Prelude.{◌≡◌, ℕ, ◌≤◌, List, take, drop, length, Option, Some, None, IsSomeAnd}
+-- What contracts know of files, and what their answers say: of the folder, of the root, and of the count by which a fault
+-- is known.
+use Rattle.std.specs.Prelude.{◌≡◌, ℕ, ◌≤◌, Bool, List, take, drop, length, Option, Some, None, IsSomeAnd}
 use Rattle.outside.specs.declared.files.RootOut.{RootOut}
 use Rattle.outside.specs.declared.files.RootOut.TheVariants as Roots
 use Rattle.outside.specs.declared.files.FindOut.{FindOut}
@@ -7,8 +8,19 @@ use Rattle.outside.specs.declared.files.FindOut.TheVariants.{Found}
 use Rattle.outside.specs.declared.files.FindOut.TheVariants as Finds
 use Rattle.outside.specs.declared.files.PartOut.{PartOut}
 use Rattle.outside.specs.declared.files.PartOut.TheVariants as Parts
-use Rattle.outside.specs.Counts.{Rises}
+use Rattle.outside.specs.Counts.{Rises, more_by_one}
 use Rattle.outside.specs.Folder.{Folder, file_at}
+
+-- what contracts know of files, besides the folder that their type has
+pub record FilesTold : Type 0 where
+  -- the text and the answer of the last `root` that didn't answer `NoMemory`
+  pub rooted : Option (List ℕ × RootOut)
+  -- how many calls of `find` there were
+  pub finds : ℕ
+  -- how many faults there were
+  pub faults : ℕ
+  -- whether no call ever fails
+  pub firm : Bool
 
 -- the text and the answer of the last `root` are kept, unless it was want of memory
 abbrev pub NotesRoot : Option (List ℕ × RootOut) → Option (List ℕ × RootOut) → List ℕ → RootOut → Type 0
@@ -51,3 +63,26 @@ PartWithin Parts.Failed buf = Unit {0}
 abbrev pub PartFaults : PartOut → ℕ → ℕ → Type 0
 PartFaults Parts.Failed old new = (old ≤ new) × Rises old new
 PartFaults (Parts.Got n) old new = old ≤ new
+
+-- what a look for the root makes of files
+pub record AskedRoot (result : RootOut) (text : List ℕ) (old new : FilesTold) : Type 0 where
+  pub notes : NotesRoot old.rooted new.rooted text result
+  pub faulted : RootFaults result old.faults new.faults
+  pub same : new ≡ record old { rooted = new.rooted; faults = new.faults }
+
+-- what a look for a file makes of files
+pub record Looked {X : Type 0} (result : FindOut X) (old new : FilesTold) : Type 0 where
+  pub counted : new.finds ≡ more_by_one old.finds
+  pub faulted : FindFaults result old.faults new.faults
+  pub same : new ≡ record old { finds = new.finds; faults = new.faults }
+
+-- what a read of a part of a file makes of files
+pub record ReadPart (result : PartOut) (old new : FilesTold) : Type 0 where
+  pub faulted : PartFaults result old.faults new.faults
+  pub same : new ≡ record old { faults = new.faults }
+
+-- what looks and reads leave of files: the root, whether they ever fail, and a count of faults that never falls
+pub record KeepsFiles (old new : FilesTold) : Type 0 where
+  pub later : old.faults ≤ new.faults
+  pub rooted : new.rooted ≡ old.rooted
+  pub firm : new.firm ≡ old.firm

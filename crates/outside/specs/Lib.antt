@@ -13,3 +13,4 @@ pub mod ReadScript
 pub mod Room
 pub mod Rooted
 pub mod SinkCauses
+pub mod StdLink

@@ -1,6 +1,7 @@
 -- A clock that hands out a list of moments.
 use Rattle.std.specs.Prelude.{◌==◌, ℕ, zero, suc, ◌-◌, ◌+◌, List, [], ◌∷◌, ◌++◌, Option, Some, None, if◌then◌else◌, length, min, nat_lt, slice_index}
 use Rattle.outside.specs.Counts.{full}
+use Rattle.outside.specs.Moments.{ClockTold}
 
 -- the moments in order, and how many were handed out so far
 pub record ClockScript : Type 0 where
@@ -23,6 +24,10 @@ moments_told clock = if nat_lt clock.asked full then Some (moments_before clock.
 -- the one moment of a list of one
 abbrev pub only_moment : ClockScript → Option ℕ
 only_moment clock = if length clock.moments == 1 then Some (slice_index clock.moments 0) else None
+
+-- what the clock tells
+abbrev pub told_of : ClockScript → ClockTold
+told_of clock = record { given = moments_told clock; still = only_moment clock }
 
 -- the clock after it was asked once more
 abbrev pub clock_asked : ClockScript → ClockScript

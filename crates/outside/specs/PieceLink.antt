@@ -1,12 +1,13 @@
 -- A link in memory: what it will still do, and what it has done.
-use Rattle.std.specs.Prelude.{◌≡◌, ℕ, ◌+◌, ◌-◌, ◌≤◌, Bool, false, List, [], ◌∷◌, if◌then◌else◌, drop, length, min, nat_le}
+use Rattle.std.specs.Prelude.{◌≡◌, ℕ, ◌+◌, ◌-◌, ◌≤◌, Bool, false, List, [], ◌∷◌, ◌++◌, Some, None, if◌then◌else◌, drop, length, min, nat_le}
 use Rattle.outside.specs.declared.link.WriteOut.{WriteOut}
 use Rattle.outside.specs.declared.link.WriteOut.TheVariants as Writes
 use Rattle.outside.specs.declared.piece_link.WriteEvent.{WriteEvent}
 use Rattle.outside.specs.declared.piece_link.WriteEvent.TheVariants as Events
 use Rattle.outside.specs.declared.piece_link.PieceLink.{PieceLink}
 use Rattle.outside.specs.declared.read_script.ReadEvent.{ReadEvent}
-use Rattle.outside.specs.Counts.{Counts}
+use Rattle.outside.specs.Causes.{LinkTold, bytes_taken}
+use Rattle.outside.specs.Counts.{nothing_counted}
 use Rattle.outside.specs.ReadScript.{ReadState, steps_of}
 use Rattle.outside.specs.Room.{RoomState}
 
@@ -22,13 +23,20 @@ pub record LinkState : Type 0 where
 abbrev pub state_of : PieceLink → LinkState
 state_of link = record { reads = link.reads; writes = drop link.written link.writes.items; room = link.room; ended = link.ended }
 
--- how many faults there were, of reads and of writes
-abbrev pub faults_of : PieceLink → Counts
-faults_of link = record { reads = link.read_faults.n; writes = link.write_faults.n }
+-- it tells its bytes and no plan
+abbrev pub told_of : PieceLink → LinkTold
+told_of link = record {
+  taken = Some link.reads.given;
+  sent = Some link.room.stored;
+  ended = Some link.ended;
+  plan = None;
+  faults = record { reads = link.read_faults.n; writes = link.write_faults.n };
+  waits = record { reads = link.read_waits.n; writes = link.write_waits.n };
+}
 
--- how many answers were that the caller must wait, of reads and of writes
-abbrev pub waits_of : PieceLink → Counts
-waits_of link = record { reads = link.read_waits.n; writes = link.write_waits.n }
+-- a link in memory of which nothing was asked yet tells so
+abbrev pub fresh_told : LinkTold
+fresh_told = record { taken = Some []; sent = Some []; ended = Some false; plan = None; faults = nothing_counted; waits = nothing_counted }
 
 -- a link of which nothing was asked yet
 abbrev pub fresh_link : List ReadEvent → List WriteEvent → ℕ → LinkState
@@ -55,17 +63,10 @@ abbrev pub FitsIn : WriteOut → ℕ → RoomState → Type 0
 FitsIn (Writes.Took n) size room = (n ≤ size) × (length room.stored + n ≤ room.size)
 FitsIn _ size room = Unit {0}
 
--- a write answers what the next event says and leaves the events behind it
-pub record PlaysWrite (old new : LinkState) (size : ℕ) (result : WriteOut) : Type 0 where
-  pub answer : result ≡ write_answer old.writes size (old.room.size - length old.room.stored)
-  pub events : new.writes ≡ drop 1 old.writes
-
--- a read leaves what concerns writes
-pub record LeavesWrites (old new : LinkState) : Type 0 where
-  pub writes : new.writes ≡ old.writes
-  pub room : new.room ≡ old.room
-
--- a write leaves what concerns reads
-pub record LeavesReads (old new : LinkState) : Type 0 where
-  pub reads : new.reads ≡ old.reads
-  pub ended : new.ended ≡ old.ended
+-- a write answers what the next event says, stores what it takes and leaves the events behind it; what concerns reads stays
+pub record PlaysWrite (old new : LinkState) (piece : List ℕ) (result : WriteOut) : Type 0 where
+  pub answer : result ≡ write_answer old.writes (length piece) (old.room.size - length old.room.stored)
+  pub same : new ≡ record old {
+    writes = drop 1 old.writes;
+    room = record old.room { stored = old.room.stored ++ bytes_taken result piece };
+  }

@@ -1,10 +1,9 @@
 // A folder of files. What it has is a meaning of the type, so that all values of the type tell one folder
 // and a fact about a file can outlive the value that found it.
-ghost use Rattle.std.specs.Prelude.{◌≡◌, ◌≤◌, ◌<◌, ◌↔◌, ℕ, Bool, List, Option, IfSome, IsSomeAnd, IsTrue, length};
-ghost use Rattle.outside.specs.declared.files.RootOut.{RootOut as Root};
-ghost use Rattle.outside.specs.Counts.{full, more_by_one};
+ghost use Rattle.std.specs.Prelude.{◌≡◌, ◌≤◌, ◌<◌, ◌↔◌, ℕ, List, Option, IfSome, IsSomeAnd, IsTrue, length};
+ghost use Rattle.outside.specs.Counts.{full};
 ghost use Rattle.outside.specs.Folder.{Folder, file_at};
-ghost use Rattle.outside.specs.FileCauses.{NotesRoot, RootFaults, FindsIn, FoundAt, FindFaults, ReadsFrom, PartWithin, PartFaults};
+ghost use Rattle.outside.specs.FileCauses.{AskedRoot, FilesTold, FindsIn, FoundAt, Looked, PartWithin, ReadPart, ReadsFrom};
 
 /// What a look for the root answers.
 #[derive(Clone, Copy, Debug, PartialEq, Eq)]
@@ -60,36 +59,21 @@ pub trait Files {
     // Of the type: what the folder has, where it is told.
     ghost folder: { Option Folder };
 
-    // The text and the answer of the last `root` that didn't answer `NoMemory`.
-    ghost rooted: { Self → Option (List ℕ × Root) };
-
-    // How many calls of `find` there were.
-    ghost finds: { Self → ℕ };
-
-    // How many faults there were.
-    ghost faults: { Self → ℕ };
-
-    // Whether no call ever fails.
-    ghost firm: { Self → Bool };
+    // The root, the counts of looks and of faults, and whether no call ever fails.
+    ghost told: { Self → FilesTold };
 
     // The path at which a file was found.
     ghost file_path: { Self.File → List ℕ };
 
     /// Says whether the root is there. Later paths are below it.
     fn root(&mut self, root: &str) -> RootOut
-        ensures notes { NotesRoot (rooted self.old) (rooted self.new) root.now result }
-        ensures faulted { RootFaults result (faults self.old) (faults self.new) }
-        ensures finds { finds self.new ≡ finds self.old }
-        ensures firm { firm self.new ≡ firm self.old };
+        ensures { AskedRoot result root.now (told self.old) (told self.new) };
 
     /// Looks for the file at a path below the root.
     fn find(&mut self, path: &str) -> FindOut<Self::File>
         ensures found { IfSome folder (λ f. FindsIn f path.now result) }
         ensures at { FoundAt Self.file_path path.now result }
-        ensures counted { finds self.new ≡ more_by_one (finds self.old) }
-        ensures faulted { FindFaults result (faults self.old) (faults self.new) }
-        ensures rooted { rooted self.new ≡ rooted self.old }
-        ensures firm { firm self.new ≡ firm self.old };
+        ensures looked { Looked result (told self.old) (told self.new) };
 
     /// Reads the file's bytes from place `at` on, counted from 0, into the front of the buffer. The caller
     /// owes a buffer that isn't empty and a place within the file as it was found.
@@ -99,18 +83,15 @@ pub trait Files {
         ensures within { PartWithin result buf.new }
         ensures reads { IfSome folder (λ f. ReadsFrom f (file_path file.old) at buf.new result) }
         ensures path { file_path file.new ≡ file_path file.old }
-        ensures faulted { PartFaults result (faults self.old) (faults self.new) }
-        ensures finds { finds self.new ≡ finds self.old }
-        ensures rooted { rooted self.new ≡ rooted self.old }
-        ensures firm { firm self.new ≡ firm self.old };
+        ensures read { ReadPart result (told self.old) (told self.new) };
 
     /// Whether the file was found at this path.
     fn is_at(file: &Self::File, text: &str) -> bool
         ensures { IsTrue result ↔ (file_path file.now ≡ text.now) };
 
-    ghost firmly: { (files : Self) → IsTrue (firm files) → faults files ≡ 0 };
+    ghost firmly: { (files : Self) → IsTrue (told files).firm → (told files).faults ≡ 0 };
 
-    ghost finds_fit: { (files : Self) → finds files ≤ full };
+    ghost finds_fit: { (files : Self) → (told files).finds ≤ full };
 
-    ghost faults_fit: { (files : Self) → faults files ≤ full };
+    ghost faults_fit: { (files : Self) → (told files).faults ≤ full };
 }

@@ -1,7 +1,7 @@
 // A clock in memory, which hands out moments that a test chose.
 ghost use Rattle.std.specs.Prelude.{◌≡◌, ◌<◌, [], ◌∷◌, IfSome, length, vec_len};
-ghost use Rattle.outside.specs.Moments.{Gains};
-ghost use Rattle.outside.specs.MemClock.{ClockScript, clock_asked, moment_after, moments_told, only_moment};
+ghost use Rattle.outside.specs.Moments.{Gives};
+ghost use Rattle.outside.specs.MemClock.{clock_asked, moment_after, only_moment, told_of};
 
 use crate::clock::Clock;
 use std::marker::Model;
@@ -35,14 +35,11 @@ impl MemClock {
 }
 
 impl Clock for MemClock {
-    ghost given = { λ clock. moments_told clock };
-
-    ghost still = { λ clock. only_moment clock };
+    ghost told = { λ clock. told_of clock };
 
     fn now(&mut self) -> u64
-        ensures gives { Gains (moments_told self.old) (moments_told self.new) (result ∷ []) }
+        ensures gives { Gives (result ∷ []) (told_of self.old) (told_of self.new) }
         ensures at { IfSome (only_moment self.old) (λ moment. result ≡ moment) }
-        ensures stays { only_moment self.new ≡ only_moment self.old }
         ensures next { result ≡ moment_after self.old.moments self.old.asked }
         ensures asked { self.new ≡ clock_asked self.old }
     {

@@ -1,8 +1,7 @@
 // A folder of files in memory, which tells what it has and fails where a test wants it to.
 ghost use Rattle.std.specs.Prelude.{◌≡◌, ◌<◌, ◌==◌, ◌↔◌, ℕ, List, None, Some, IsSomeAnd, length, string_bytes};
-ghost use Rattle.outside.specs.Counts.{more_by_one};
 ghost use Rattle.outside.specs.Folder.{file_at};
-ghost use Rattle.outside.specs.FileCauses.{NotesRoot, RootFaults, FindsIn, FoundAt, FindFaults, PartFaults};
+ghost use Rattle.outside.specs.FileCauses.{AskedRoot, FindsIn, FoundAt, Looked, ReadPart};
 ghost use Rattle.outside.specs.CallScript.{NextFails, PlaysFind, PlaysRoot, called};
 ghost use Rattle.outside.specs.MemFolder.{GivesPart, IsPlaceOf, entry_at, folder_in};
 
@@ -59,9 +58,7 @@ impl<K: Place> MemFiles<K> {
         requires { folder_in contents.items ≡ K.folder }
         ensures script { result.script ≡ record { failing = failing.items; calls = 0 } }
         ensures root { result.present ≡ present }
-        ensures rooted { ⟦<MemFiles<K> as Files>⟧.rooted result ≡ None }
-        ensures finds { ⟦<MemFiles<K> as Files>⟧.finds result ≡ 0 }
-        ensures faults { ⟦<MemFiles<K> as Files>⟧.faults result ≡ 0 }
+        ensures told { ⟦<MemFiles<K> as Files>⟧.told result ≡ record { rooted = None; finds = 0; faults = 0; firm = length failing.items == 0 } }
     {
         MemFiles {
             alloc,
@@ -77,7 +74,7 @@ impl<K: Place> MemFiles<K> {
 
     /// How many calls of `find` there were.
     pub fn finds(&self) -> u64
-        ensures { result ≡ ⟦<MemFiles<K> as Files>⟧.finds self.now }
+        ensures { result ≡ (⟦<MemFiles<K> as Files>⟧.told self.now).finds }
     {
         self.finds.now()
     }
@@ -87,26 +84,18 @@ impl<K: Place> Files for MemFiles<K> {
     type File = MemOpen;
 
     ghost use Rattle.std.specs.Prelude.{Some, ◌==◌, ◌≡◌};
-    ghost use Rattle.outside.specs.Rooted.{root_told};
+    ghost use Rattle.outside.specs.Rooted.{told_by};
 
     ghost folder = { Some K.folder };
 
-    ghost rooted = { λ files. root_told files.rooted };
-
-    ghost finds = { λ files. files.finds.n };
-
-    ghost faults = { λ files. files.faults.n };
-
-    ghost firm = { λ files. length files.script.failing == 0 };
+    ghost told = { λ files. told_by files.rooted files.finds.n files.faults.n (length files.script.failing == 0) };
 
     ghost file_path = { λ file. string_bytes file.path };
 
     fn root(&mut self, root: &str) -> RootOut
-        ensures notes { NotesRoot (root_told self.old.rooted) (root_told self.new.rooted) root.now result }
         ensures plays { PlaysRoot self.old.script self.old.present result }
         ensures script { self.new.script ≡ called self.old.script }
-        ensures faulted { RootFaults result self.old.faults.n self.new.faults.n }
-        ensures finds { self.new.finds.n ≡ self.old.finds.n }
+        ensures asked { AskedRoot result root.now (⟦<MemFiles<K> as Files>⟧.told self.old) (⟦<MemFiles<K> as Files>⟧.told self.new) }
     {
         let fails = self.script.next_fails();
         let Ok(text) = String::from_str(self.alloc, root) else {
@@ -129,9 +118,7 @@ impl<K: Place> Files for MemFiles<K> {
         ensures at { FoundAt (λ file. string_bytes file.path) path.now result }
         ensures plays { PlaysFind self.old.script result }
         ensures script { self.new.script ≡ called self.old.script }
-        ensures counted { self.new.finds.n ≡ more_by_one self.old.finds.n }
-        ensures faulted { FindFaults result self.old.faults.n self.new.faults.n }
-        ensures rooted { root_told self.new.rooted ≡ root_told self.old.rooted }
+        ensures looked { Looked result (⟦<MemFiles<K> as Files>⟧.told self.old) (⟦<MemFiles<K> as Files>⟧.told self.new) }
     {
         self.finds.rise();
         if self.script.next_fails() {
@@ -158,9 +145,7 @@ impl<K: Place> Files for MemFiles<K> {
         ensures path { string_bytes file.new.path ≡ string_bytes file.old.path }
         ensures plays { (result ≡ PartOut.Failed) ↔ NextFails self.old.script }
         ensures script { self.new.script ≡ called self.old.script }
-        ensures faulted { PartFaults result self.old.faults.n self.new.faults.n }
-        ensures finds { self.new.finds.n ≡ self.old.finds.n }
-        ensures rooted { root_told self.new.rooted ≡ root_told self.old.rooted }
+        ensures read { ReadPart result (⟦<MemFiles<K> as Files>⟧.told self.old) (⟦<MemFiles<K> as Files>⟧.told self.new) }
     {
         if self.script.next_fails() {
             self.faults.rise();

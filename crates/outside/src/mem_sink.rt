@@ -1,7 +1,7 @@
 // A sink in memory, whose room is taken at its making.
 ghost use Rattle.std.specs.Prelude.{◌≡◌, [], IfOk, Some};
-ghost use Rattle.outside.specs.SinkCauses.{SinkFaults};
-ghost use Rattle.outside.specs.MemSink.{StoresWhatFits, room_of};
+ghost use Rattle.outside.specs.SinkCauses.{Puts};
+ghost use Rattle.outside.specs.MemSink.{StoresWhatFits, room_of, told_of};
 
 use crate::bytes::Room;
 use crate::count::Count;
@@ -19,7 +19,7 @@ impl MemSink {
     /// A sink with room for `room` bytes, which it takes now.
     pub fn new(alloc: Global, room: usize) -> Result<MemSink, AllocError>
         ensures empty { IfOk result (λ sink. room_of sink ≡ record { stored = []; size = room }) }
-        ensures faults { IfOk result (λ sink. ⟦<MemSink as Sink>⟧.faults sink ≡ 0) }
+        ensures told { IfOk result (λ sink. told_of sink ≡ record { stored = Some []; faults = 0 }) }
     {
         let room = Room::new(alloc, room)?;
         Ok(MemSink {
@@ -37,13 +37,11 @@ impl MemSink {
 }
 
 impl Sink for MemSink {
-    ghost stored = { λ sink. Some (room_of sink).stored };
-
-    ghost faults = { λ sink. sink.faults.n };
+    ghost told = { told_of };
 
     fn put(&mut self, piece: &[u8]) -> SinkOut
         ensures stores { StoresWhatFits (room_of self.old) (room_of self.new) piece.now result }
-        ensures faulted { SinkFaults result self.old.faults.n self.new.faults.n }
+        ensures puts { Puts result piece.now (told_of self.old) (told_of self.new) }
     {
         let count = piece.len().min(self.room.free());
         self.room.store(&piece[..count]);

@@ -20,9 +20,7 @@ impl<'a, R> OsClock<'a, R> {
 }
 
 impl<'a, R: rt::Clock> Clock for OsClock<'a, R> {
-    ghost given = { λ _. None };
-
-    ghost still = { λ _. None };
+    ghost told = { λ _. record { given = None; still = None } };
 
     fn now(&mut self) -> u64 {
         if let Ok(time) = SystemTime::now(self.rt)

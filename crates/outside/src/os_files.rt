@@ -1,5 +1,5 @@
 // The system's files below a root. They tell no folder: what a real folder holds is the system's word.
-ghost use Rattle.std.specs.Prelude.{None, false, string_bytes};
+ghost use Rattle.std.specs.Prelude.{◌≡◌, None, false, string_bytes};
 
 use crate::count::Count;
 use crate::files::{Files, FindOut, Opened, PartOut, RootOut};
@@ -28,9 +28,14 @@ pub struct OsFile<X> {
     path: String,
 }
 
-impl<'a, R> OsFiles<'a, R> {
+impl<'a, R: rt::Files> OsFiles<'a, R>
+where
+    R::File: FileExt,
+{
     /// The files of this runtime, with no root yet, so that no path is there.
-    pub fn new(alloc: Global, rt: &'a R) -> OsFiles<'a, R> {
+    pub fn new(alloc: Global, rt: &'a R) -> OsFiles<'a, R>
+        ensures { ⟦<OsFiles<'a, R> as Files>⟧.told result ≡ record { rooted = None; finds = 0; faults = 0; firm = false } }
+    {
         OsFiles {
             alloc,
             rt,
@@ -56,17 +61,11 @@ where
     type File = OsFile<R::File>;
 
     ghost use Rattle.std.specs.Prelude.{None, false, string_bytes};
-    ghost use Rattle.outside.specs.Rooted.{root_told};
+    ghost use Rattle.outside.specs.Rooted.{told_by};
 
     ghost folder = { None };
 
-    ghost rooted = { λ files. root_told files.rooted };
-
-    ghost finds = { λ files. files.finds.n };
-
-    ghost faults = { λ files. files.faults.n };
-
-    ghost firm = { λ _. false };
+    ghost told = { λ files. told_by files.rooted files.finds.n files.faults.n false };
 
     ghost file_path = { λ file. string_bytes file.path };
 

@@ -1,9 +1,8 @@
 // A link in memory, which gives pieces and takes as much of each write as a test wants it to.
-ghost use Rattle.std.specs.Prelude.{◌≡◌, ◌≤◌, ◌<◌, ◌+◌, ◌-◌, ◌++◌, ◌||◌, IfOk, Some, None, drop, false, length, refl};
-ghost use Rattle.outside.specs.Counts.{Counts, nothing_counted};
-ghost use Rattle.outside.specs.Causes.{bytes_got, bytes_taken, is_end, GivesWithin, TakesWithin, ReadFaults, ReadWaits, WriteFaults, WriteWaits};
+ghost use Rattle.std.specs.Prelude.{◌≡◌, ◌<◌, ◌-◌, IfOk, drop, false, length, refl};
+ghost use Rattle.outside.specs.Causes.{bytes_got, bytes_taken, GivesWithin, Read, TakesWithin, Wrote};
 ghost use Rattle.outside.specs.ReadScript.{EachFilled, PlaysRead};
-ghost use Rattle.outside.specs.PieceLink.{FitsIn, PlaysWrite, LeavesReads, LeavesWrites, faults_of, fresh_link, state_of, waits_of, write_answer};
+ghost use Rattle.outside.specs.PieceLink.{FitsIn, PlaysWrite, fresh_link, fresh_told, state_of, told_of, write_answer};
 
 use crate::bytes::Room;
 use crate::count::Count;
@@ -48,8 +47,7 @@ impl PieceLink {
     ) -> Result<PieceLink, AllocError>
         requires { EachFilled reads.items }
         ensures fresh { IfOk result (λ link. state_of link ≡ fresh_link reads.items writes.items room) }
-        ensures faults { IfOk result (λ link. faults_of link ≡ nothing_counted) }
-        ensures waits { IfOk result (λ link. waits_of link ≡ nothing_counted) }
+        ensures told { IfOk result (λ link. told_of link ≡ fresh_told) }
     {
         let room = Room::new(alloc, room)?;
         Ok(PieceLink {
@@ -99,29 +97,16 @@ impl PieceLink {
 }
 
 impl Link for PieceLink {
-    ghost taken = { λ link. Some (state_of link).reads.given };
-
-    ghost sent = { λ link. Some (state_of link).room.stored };
-
-    ghost ended = { λ link. Some (state_of link).ended };
-
-    ghost plan = { λ _. None };
-
-    ghost faults = { λ link. faults_of link };
-
-    ghost waits = { λ link. waits_of link };
+    ghost told = { told_of };
 
     ghost sure = { false };
 
     fn read(&mut self, buf: &mut [u8]) -> ReadOut
         requires { 0 < length buf.old }
         ensures within { GivesWithin result buf.new }
-        ensures takes { (state_of self.new).reads.given ≡ (state_of self.old).reads.given ++ bytes_got result buf.new }
+        ensures read { Read result (bytes_got result buf.new) (told_of self.old) (told_of self.new) }
         ensures plays { PlaysRead (state_of self.old).reads.left (state_of self.new).reads.left result buf.new }
-        ensures ends { (state_of self.new).ended ≡ ((state_of self.old).ended || is_end result) }
-        ensures writes { LeavesWrites (state_of self.old) (state_of self.new) }
-        ensures faulted { ReadFaults result (faults_of self.old) (faults_of self.new) }
-        ensures waited { ReadWaits result (waits_of self.old) (waits_of self.new) }
+        ensures same { state_of self.new ≡ record (state_of self.old) { reads = (state_of self.new).reads; ended = (state_of self.new).ended } }
     {
         let answer = self.reads.read(buf);
         match answer {
@@ -135,12 +120,8 @@ impl Link for PieceLink {
 
     fn write(&mut self, piece: &[u8]) -> WriteOut
         ensures within { TakesWithin result piece.now }
-        ensures sends { (state_of self.new).room
-            ≡ record (state_of self.old).room { stored = (state_of self.old).room.stored ++ bytes_taken result piece.now } }
-        ensures plays { PlaysWrite (state_of self.old) (state_of self.new) (length piece.now) result }
-        ensures reads { LeavesReads (state_of self.old) (state_of self.new) }
-        ensures faulted { WriteFaults result (faults_of self.old) (faults_of self.new) }
-        ensures waited { WriteWaits result (waits_of self.old) (waits_of self.new) }
+        ensures wrote { Wrote result (bytes_taken result piece.now) (told_of self.old) (told_of self.new) }
+        ensures plays { PlaysWrite (state_of self.old) (state_of self.new) piece.now result }
     {
         let answer = self.next_write(piece.len());
         match answer {

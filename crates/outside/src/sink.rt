@@ -1,7 +1,7 @@
 // Where a program's lines go.
-ghost use Rattle.std.specs.Prelude.{◌≤◌, ℕ, List, Option};
+ghost use Rattle.std.specs.Prelude.{◌≤◌};
 ghost use Rattle.outside.specs.Counts.{full};
-ghost use Rattle.outside.specs.SinkCauses.{Stores, SinkFaults};
+ghost use Rattle.outside.specs.SinkCauses.{Puts, SinkTold};
 
 /// What putting a piece answers.
 #[derive(Clone, Copy, Debug, PartialEq, Eq)]
@@ -14,16 +14,12 @@ pub enum SinkOut {
 
 /// Where bytes are stored.
 pub trait Sink {
-    // The bytes stored so far, where they are told.
-    ghost stored: { Self → Option (List ℕ) };
-
-    // How many faults there were.
-    ghost faults: { Self → ℕ };
+    // The bytes stored so far, where they are told, and how many faults there were.
+    ghost told: { Self → SinkTold };
 
     /// Stores the piece behind what is stored.
     fn put(&mut self, piece: &[u8]) -> SinkOut
-        ensures stores { Stores result (stored self.old) (stored self.new) piece.now }
-        ensures faulted { SinkFaults result (faults self.old) (faults self.new) };
+        ensures { Puts result piece.now (told self.old) (told self.new) };
 
-    ghost faults_fit: { (sink : Self) → faults sink ≤ full };
+    ghost faults_fit: { (sink : Self) → (told sink).faults ≤ full };
 }

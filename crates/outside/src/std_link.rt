@@ -1,7 +1,8 @@
 // A link over a reader and a writer of std. It tells no bytes.
-ghost use Rattle.std.specs.Prelude.{◌≡◌, ◌≢◌, ◌<◌, false, None, length, refl};
+ghost use Rattle.std.specs.Prelude.{◌≡◌, ◌≢◌, ◌<◌, None, false, length, refl};
 ghost use Rattle.std.specs.Io.KnownBytes.{Appends, Consumes, IsAtEnd};
-ghost use Rattle.outside.specs.Causes.{bytes_got, bytes_taken, GivesWithin, ReadFaults, TakesWithin, WriteFaults};
+ghost use Rattle.outside.specs.Causes.{bytes_got, bytes_taken, GivesWithin, Read, TakesWithin, Wrote};
+ghost use Rattle.outside.specs.StdLink.{told_of};
 ghost use Rattle.outside.specs.Counts.{nothing_counted};
 
 use crate::count::Count;
@@ -20,7 +21,9 @@ pub struct StdLink<R, W> {
 
 impl<R, W> StdLink<R, W> {
     /// A link that reads from the reader and writes to the writer.
-    pub fn new(reader: R, writer: W) -> StdLink<R, W> {
+    pub fn new(reader: R, writer: W) -> StdLink<R, W>
+        ensures { told_of result ≡ record { taken = None; sent = None; ended = None; plan = None; faults = nothing_counted; waits = nothing_counted } }
+    {
         StdLink {
             reader,
             writer,
@@ -31,17 +34,7 @@ impl<R, W> StdLink<R, W> {
 }
 
 impl<R: Read, W: Write> Link for StdLink<R, W> {
-    ghost taken = { λ _. None };
-
-    ghost sent = { λ _. None };
-
-    ghost ended = { λ _. None };
-
-    ghost plan = { λ _. None };
-
-    ghost faults = { λ link. record { reads = link.read_faults.n; writes = link.write_faults.n } };
-
-    ghost waits = { λ _. nothing_counted };
+    ghost told = { told_of };
 
     ghost sure = { false };
 
@@ -52,7 +45,7 @@ impl<R: Read, W: Write> Link for StdLink<R, W> {
         ensures reads { Consumes (R.remaining self.old.reader) (R.remaining self.new.reader) (bytes_got result buf.new) }
         ensures over { result ≡ ReadOut.End → IsAtEnd (R.remaining self.new.reader) }
         ensures never { result ≢ ReadOut.NotYet }
-        ensures faulted { ReadFaults result (record { reads = self.old.read_faults.n; writes = self.old.write_faults.n }) (record { reads = self.new.read_faults.n; writes = self.new.write_faults.n }) }
+        ensures read { Read result (bytes_got result buf.new) (told_of self.old) (told_of self.new) }
     {
         match read_once(&mut self.reader, buf) {
             Ok(0) => ReadOut::End,
@@ -69,7 +62,7 @@ impl<R: Read, W: Write> Link for StdLink<R, W> {
         ensures within { TakesWithin result piece.now }
         ensures writes { Appends (W.contents self.old.writer) (W.contents self.new.writer) (bytes_taken result piece.now) }
         ensures never { result ≢ WriteOut.NotYet }
-        ensures faulted { WriteFaults result (record { reads = self.old.read_faults.n; writes = self.old.write_faults.n }) (record { reads = self.new.read_faults.n; writes = self.new.write_faults.n }) }
+        ensures wrote { Wrote result (bytes_taken result piece.now) (told_of self.old) (told_of self.new) }
     {
         match write_once(&mut self.writer, piece) {
             Ok(0) => {

@@ -1,7 +1,7 @@
 // A sink over a writer of std. It tells no bytes.
 ghost use Rattle.std.specs.Prelude.{◌≡◌, None};
 ghost use Rattle.std.specs.Io.KnownBytes.{Appends};
-ghost use Rattle.outside.specs.SinkCauses.{SinkFaults};
+ghost use Rattle.outside.specs.SinkCauses.{Puts};
 
 use crate::count::Count;
 use crate::sink::{Sink, SinkOut};
@@ -14,9 +14,11 @@ pub struct StdSink<W> {
     faults: Count,
 }
 
-impl<W> StdSink<W> {
+impl<W: Write> StdSink<W> {
     /// A sink that writes to the writer.
-    pub fn new(writer: W) -> StdSink<W> {
+    pub fn new(writer: W) -> StdSink<W>
+        ensures { ⟦<StdSink<W> as Sink>⟧.told result ≡ record { stored = None; faults = 0 } }
+    {
         StdSink {
             writer,
             faults: Count::new(),
@@ -25,14 +27,12 @@ impl<W> StdSink<W> {
 }
 
 impl<W: Write> Sink for StdSink<W> {
-    ghost stored = { λ _. None };
-
-    ghost faults = { λ sink. sink.faults.n };
+    ghost told = { λ sink. record { stored = None; faults = sink.faults.n } };
 
     // Where the writer tells its bytes, a piece that is stored came to them whole.
     fn put(&mut self, piece: &[u8]) -> SinkOut
         ensures writes { result ≡ SinkOut.Stored → Appends (W.contents self.old.writer) (W.contents self.new.writer) piece.now }
-        ensures faulted { SinkFaults result self.old.faults.n self.new.faults.n }
+        ensures puts { Puts result piece.now (record { stored = None; faults = self.old.faults.n }) (record { stored = None; faults = self.new.faults.n }) }
     {
         if self.writer.write_all(piece).is_ok() && self.writer.flush().is_ok() {
             SinkOut::Stored

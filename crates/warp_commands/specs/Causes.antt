@@ -1,17 +1,13 @@
 -- Why a connection ended as it did.
-use Rattle.std.specs.Prelude.{◌≡◌, ◌≢◌, ◌⊎◌, ◌↔◌, ℕ, List, Option, Some, IsSomeAnd}
+use Rattle.std.specs.Prelude.{◌≡◌, ◌≢◌, ◌⊎◌, ◌↔◌, ℕ, ◌≤◌, List, Some, IsSomeAnd}
+use Rattle.outside.specs.Causes.{KeepsLink, LinkTold}
 use Rattle.outside.specs.Counts.{Counts, Rises, more_by_one}
-use Rattle.outside.specs.declared.files.RootOut.{RootOut}
+use Rattle.outside.specs.FileCauses.{FilesTold}
+use Rattle.outside.specs.Moments.{ClockTold}
 use Rattle.outside.specs.declared.files.RootOut.TheVariants.{Present, Absent}
 use Rattle.warp_commands.specs.declared.status.Status.{Status}
 use Rattle.warp_commands.specs.declared.status.Status.TheVariants.{Clean, Cut, Usage, ReadFault, WriteFault, FileFault, NoMemory, NoSuchFolder, NotReady}
 use Rattle.warp_commands.specs.Words.{Reading, no_command, connection}
-
--- what the link and the files have counted
-pub record Counted : Type 0 where
-  pub faults : Counts
-  pub waits : Counts
-  pub files : ℕ
 
 -- one wait was counted, of a read or of a write
 abbrev pub WaitsOnce : (before after : Counts) → Type 0
@@ -20,33 +16,40 @@ WaitsOnce before after =
     ⊎ ((after.writes ≡ more_by_one before.writes) × (after.reads ≡ before.reads))
 
 -- no fault and no wait was counted
-pub record NoneRose (before after : Counted) : Type 0 where
-  pub reads : ¬ Rises before.faults.reads after.faults.reads
-  pub writes : ¬ Rises before.faults.writes after.faults.writes
-  pub read_waits : ¬ Rises before.waits.reads after.waits.reads
-  pub write_waits : ¬ Rises before.waits.writes after.waits.writes
-  pub files : ¬ Rises before.files after.files
+pub record NoneRose (link later : LinkTold) (files since : FilesTold) : Type 0 where
+  pub reads : ¬ Rises link.faults.reads later.faults.reads
+  pub writes : ¬ Rises link.faults.writes later.faults.writes
+  pub read_waits : ¬ Rises link.waits.reads later.waits.reads
+  pub write_waits : ¬ Rises link.waits.writes later.waits.writes
+  pub file_faults : ¬ Rises files.faults since.faults
+
+-- what a command leaves: the link's plan, whether the files ever fail, a clock that stands still, and counts that never fall
+pub record Leaves (link later : LinkTold) (files since : FilesTold) (clock after : ClockTold) : Type 0 where
+  pub of_link : KeepsLink link later
+  pub counted : files.faults ≤ since.faults
+  pub firm : since.firm ≡ files.firm
+  pub still : after.still ≡ clock.still
 
 -- Why a status comes: by the words, by what the files answered for the root, and by the counts of the very link and files.
-pub record HasCause (status : Status) (words : Reading) (rooted : Option (List ℕ × RootOut)) (before after : Counted) : Type 0 where
+pub record HasCause (status : Status) (words : Reading) (link later : LinkTold) (files since : FilesTold) : Type 0 where
   pub usage : (status ≡ Usage) ↔ (words ≡ no_command)
-  pub read_fault : status ≡ ReadFault → Rises before.faults.reads after.faults.reads
-  pub write_fault : status ≡ WriteFault → Rises before.faults.writes after.faults.writes
-  pub file_fault : status ≡ FileFault → Rises before.files after.files
-  pub not_ready : status ≡ NotReady → WaitsOnce before.waits after.waits
-  pub waits_told : status ≢ NotReady → after.waits ≡ before.waits
-  pub names_root : (root : List ℕ) → words ≡ connection root → status ≢ NoMemory → IsSomeAnd rooted (λ r. r.0 ≡ root)
-  pub no_folder : (root : List ℕ) → words ≡ connection root → status ≢ NoMemory → (status ≡ NoSuchFolder) ↔ (rooted ≡ Some (root, Absent))
+  pub read_fault : status ≡ ReadFault → Rises link.faults.reads later.faults.reads
+  pub write_fault : status ≡ WriteFault → Rises link.faults.writes later.faults.writes
+  pub file_fault : status ≡ FileFault → Rises files.faults since.faults
+  pub not_ready : status ≡ NotReady → WaitsOnce link.waits later.waits
+  pub waits_told : status ≢ NotReady → later.waits ≡ link.waits
+  pub names_root : (root : List ℕ) → words ≡ connection root → status ≢ NoMemory → IsSomeAnd since.rooted (λ r. r.0 ≡ root)
+  pub no_folder : (root : List ℕ) → words ≡ connection root → status ≢ NoMemory → (status ≡ NoSuchFolder) ↔ (since.rooted ≡ Some (root, Absent))
   -- with a command, a root and no fault or wait, all is answered, or memory was wanted
-  pub complete : (root : List ℕ) → words ≡ connection root → rooted ≡ Some (root, Present) → NoneRose before after
+  pub complete : (root : List ℕ) → words ≡ connection root → since.rooted ≡ Some (root, Present) → NoneRose link later files since
       → (status ≡ Clean) ⊎ (status ≡ Cut) ⊎ (status ≡ NoMemory)
 
 -- why a connection that was served ended as it did
-pub record IsServeCause (status : Status) (before after : Counted) : Type 0 where
+pub record IsServeCause (status : Status) (link later : LinkTold) (files since : FilesTold) : Type 0 where
   pub was_read : status ≢ Usage
   pub was_there : status ≢ NoSuchFolder
-  pub read_fault : status ≡ ReadFault → Rises before.faults.reads after.faults.reads
-  pub write_fault : status ≡ WriteFault → Rises before.faults.writes after.faults.writes
-  pub file_fault : status ≡ FileFault → Rises before.files after.files
-  pub not_ready : status ≡ NotReady → WaitsOnce before.waits after.waits
-  pub waits_told : status ≢ NotReady → after.waits ≡ before.waits
+  pub read_fault : status ≡ ReadFault → Rises link.faults.reads later.faults.reads
+  pub write_fault : status ≡ WriteFault → Rises link.faults.writes later.faults.writes
+  pub file_fault : status ≡ FileFault → Rises files.faults since.faults
+  pub not_ready : status ≡ NotReady → WaitsOnce link.waits later.waits
+  pub waits_told : status ≢ NotReady → later.waits ≡ link.waits

@@ -1,6 +1,7 @@
 -- What each end of a command is called, by number and in words.
-use Rattle.std.specs.Prelude.{◌≡◌, ℕ, ◌≤◌, ◌⊎◌, List, [], ◌++◌, Option, option_map, codes}
+use Rattle.std.specs.Prelude.{◌≡◌, ℕ, ◌≤◌, ◌⊎◌, List, [], ◌++◌, option_map, codes}
 use Rattle.outside.specs.Counts.{Rises}
+use Rattle.outside.specs.SinkCauses.{SinkTold}
 use Rattle.warp_commands.specs.declared.status.Status.{Status}
 use Rattle.warp_commands.specs.declared.status.Status.TheVariants.{Clean, Cut, Usage, ReadFault, WriteFault, FileFault, NoMemory, NoSuchFolder, NotReady}
 
@@ -29,9 +30,9 @@ line_of NoSuchFolder = codes "no such folder\n"
 line_of NotReady = codes "not ready\n"
 
 -- a sink got exactly this line, unless its count of faults rose
-abbrev pub TellsLine : List ℕ → (old new : Option (List ℕ)) → (before after : ℕ) → Type 0
-TellsLine line old new before after =
-    (before ≤ after) × (Rises before after ⊎ (new ≡ option_map (λ bytes. bytes ++ line) old))
+abbrev pub TellsLine : List ℕ → (old new : SinkTold) → Type 0
+TellsLine line old new =
+    (old.faults ≤ new.faults) × (Rises old.faults new.faults ⊎ (new.stored ≡ option_map (λ bytes. bytes ++ line) old.stored))
 
 -- an exit status is that of an end of which this holds
 abbrev pub IsStatus : ℕ → (Status → Type 0) → Type 0

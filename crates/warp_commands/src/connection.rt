@@ -1,10 +1,11 @@
 // One connection, from the words of its command to its status: the call that carries what is promised of the bytes.
 ghost use Rattle.std.specs.Prelude.{◌≡◌, map, string_bytes};
+ghost use Rattle.outside.specs.Causes.{IsFresh};
 ghost use Rattle.warp_commands.specs.Words.{words_read};
 ghost use Rattle.warp_commands.specs.Statuses.{IsStatus, line_of, TellsLine};
-ghost use Rattle.warp_commands.specs.Causes.{HasCause, IsServeCause};
+ghost use Rattle.warp_commands.specs.Causes.{HasCause, IsServeCause, Leaves};
 ghost use Rattle.warp_commands.specs.Steps.{status_after};
-ghost use Rattle.warp_commands.specs.Served.{IsFresh, IsAnsweredFor};
+ghost use Rattle.warp_commands.specs.Served.{IsAnsweredFor};
 
 use crate::command::{Command, command_of};
 use crate::status::{Status, tell};
@@ -26,23 +27,20 @@ pub fn run_connection<L: Link, F: Files, C: Clock, S: Sink>(
     clock: &mut C,
     errors: &mut S,
 ) -> u8
-    requires { IsFresh (L.taken link.old) (L.sent link.old) (L.ended link.old) }
+    requires { IsFresh (L.told link.old) }
 
     // The bytes sent are a prefix of the answers to the bytes taken, in order, and whole at a clean end and at a cut.
-    ensures answered { IsStatus result (λ status. IsAnsweredFor status (C.given clock.old) (C.given clock.new)
-        (L.ended link.new) F.folder (L.taken link.new) (L.sent link.new)) }
+    ensures answered { IsStatus result (λ status. IsAnsweredFor status F.folder (L.told link.new) (C.told clock.old) (C.told clock.new)) }
 
     // Each status has its cause in the words, the root and the counts.
-    ensures caused { IsStatus result (λ status. HasCause status (words_read (map string_bytes words.now)) (F.rooted files.new)
-        (record { faults = L.faults link.old; waits = L.waits link.old; files = F.faults files.old })
-        (record { faults = L.faults link.new; waits = L.waits link.new; files = F.faults files.new })) }
+    ensures caused { IsStatus result (λ status. HasCause status (words_read (map string_bytes words.now))
+        (L.told link.old) (L.told link.new) (F.told files.old) (F.told files.new)) }
 
     // The error stream got the status's line and nothing else.
-    ensures told { IsStatus result (λ status. TellsLine (line_of status) (S.stored errors.old) (S.stored errors.new)
-        (S.faults errors.old) (S.faults errors.new)) }
-    ensures plan { L.plan link.new ≡ L.plan link.old }
-    ensures firm { F.firm files.new ≡ F.firm files.old }
-    ensures still { C.still clock.new ≡ C.still clock.old }
+    ensures told { IsStatus result (λ status. TellsLine (line_of status) (S.told errors.old) (S.told errors.new)) }
+
+    // What the link plans, the firmness of the files and the stillness of the clock stay, and no count of faults falls.
+    ensures leaves { Leaves (L.told link.old) (L.told link.new) (F.told files.old) (F.told files.new) (C.told clock.old) (C.told clock.new) }
 {
     let status = carried_out(alloc, words, link, files, clock);
     tell(errors, status);
@@ -57,15 +55,11 @@ fn carried_out<L: Link, F: Files, C: Clock>(
     files: &mut F,
     clock: &mut C,
 ) -> Status
-    requires { IsFresh (L.taken link.old) (L.sent link.old) (L.ended link.old) }
-    ensures answered { IsAnsweredFor result (C.given clock.old) (C.given clock.new)
-        (L.ended link.new) F.folder (L.taken link.new) (L.sent link.new) }
-    ensures caused { HasCause result (words_read (map string_bytes words.now)) (F.rooted files.new)
-        (record { faults = L.faults link.old; waits = L.waits link.old; files = F.faults files.old })
-        (record { faults = L.faults link.new; waits = L.waits link.new; files = F.faults files.new }) }
-    ensures plan { L.plan link.new ≡ L.plan link.old }
-    ensures firm { F.firm files.new ≡ F.firm files.old }
-    ensures still { C.still clock.new ≡ C.still clock.old }
+    requires { IsFresh (L.told link.old) }
+    ensures answered { IsAnsweredFor result F.folder (L.told link.new) (C.told clock.old) (C.told clock.new) }
+    ensures caused { HasCause result (words_read (map string_bytes words.now))
+        (L.told link.old) (L.told link.new) (F.told files.old) (F.told files.new) }
+    ensures leaves { Leaves (L.told link.old) (L.told link.new) (F.told files.old) (F.told files.new) (C.told clock.old) (C.told clock.new) }
 {
     let Ok(Command::Connection { root }) = command_of(words) else {
         return Status::Usage;
@@ -85,16 +79,11 @@ fn served<L: Link, F: Files, C: Clock>(
     files: &mut F,
     clock: &mut C,
 ) -> Status
-    requires { IsFresh (L.taken link.old) (L.sent link.old) (L.ended link.old) }
-    ensures answered { IsAnsweredFor result (C.given clock.old) (C.given clock.new)
-        (L.ended link.new) F.folder (L.taken link.new) (L.sent link.new) }
-    ensures caused { IsServeCause result
-        (record { faults = L.faults link.old; waits = L.waits link.old; files = F.faults files.old })
-        (record { faults = L.faults link.new; waits = L.waits link.new; files = F.faults files.new }) }
-    ensures rooted { F.rooted files.new ≡ F.rooted files.old }
-    ensures plan { L.plan link.new ≡ L.plan link.old }
-    ensures firm { F.firm files.new ≡ F.firm files.old }
-    ensures still { C.still clock.new ≡ C.still clock.old }
+    requires { IsFresh (L.told link.old) }
+    ensures answered { IsAnsweredFor result F.folder (L.told link.new) (C.told clock.old) (C.told clock.new) }
+    ensures caused { IsServeCause result (L.told link.old) (L.told link.new) (F.told files.old) (F.told files.new) }
+    ensures rooted { (F.told files.new).rooted ≡ (F.told files.old).rooted }
+    ensures leaves { Leaves (L.told link.old) (L.told link.new) (F.told files.old) (F.told files.new) (C.told clock.old) (C.told clock.new) }
 {
     let Ok(mut conn) = Conn::<F>::new(alloc) else {
         return Status::NoMemory;

@@ -59,8 +59,7 @@ impl Status {
 /// Ends before a command was begun: tells the status's line, and gives the exit status.
 pub fn refuse<S: Sink>(errors: &mut S, status: Status) -> u8
     ensures code { result ≡ code_of status }
-    ensures told { TellsLine (line_of status) (S.stored errors.old) (S.stored errors.new)
-        (S.faults errors.old) (S.faults errors.new) }
+    ensures told { TellsLine (line_of status) (S.told errors.old) (S.told errors.new) }
 {
     tell(errors, status);
     status.code()
@@ -68,8 +67,7 @@ pub fn refuse<S: Sink>(errors: &mut S, status: Status) -> u8
 
 /// Writes the status's line, if it has one. A fault of the sink changes no status.
 pub(crate) fn tell<S: Sink>(errors: &mut S, status: Status)
-    ensures { TellsLine (line_of status) (S.stored errors.old) (S.stored errors.new)
-        (S.faults errors.old) (S.faults errors.new) }
+    ensures { TellsLine (line_of status) (S.told errors.old) (S.told errors.new) }
 {
     let line = status.line();
     if !line.is_empty() {

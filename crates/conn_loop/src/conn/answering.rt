@@ -1,6 +1,6 @@
 // What a connection answers: replies and refusals are made, and what was made is written.
 ghost use Rattle.std.specs.Prelude.{◌≡◌, ◌<◌, ◌+◌, ◌∷◌, ℕ, [], Option, Some, None, IfNone, false};
-ghost use Rattle.outside.specs.Moments.{Gains};
+ghost use Rattle.outside.specs.Moments.{Gives};
 ghost use Rattle.warp_request.specs.Verdict.{asked};
 ghost use Rattle.conn_loop.specs.Causes.{Clocked};
 ghost use Rattle.conn_loop.specs.Moves.{Sends, Refuses, AnswersTo, AnswerFaults};
@@ -8,7 +8,6 @@ ghost use Rattle.conn_loop.specs.Phases.{IsRefusal};
 ghost use Rattle.conn_loop.specs.Replying.{Replying, replying};
 ghost use Rattle.conn_loop.specs.Stages.{IsReadyStage};
 ghost use Rattle.conn_loop.specs.Steps.{ComesFor, Goes, GoesOver, MayEnd, EndsWith, to_go};
-ghost use Rattle.conn_loop.specs.Writing.{CountsWrites};
 
 use super::Conn;
 use crate::answered::{Answered, last_word, left_after, note};
@@ -33,16 +32,12 @@ impl<F: Files> Conn<F> {
         requires some { 0 < self.old.left }
         requires running { self.old.over ≡ None }
         requires ready { IsReadyStage self.old.stage }
-        ensures stands { ComesFor None (replying (A.moves app.now) F.folder) self.old (L.taken link.old) (L.sent link.old) (L.ended link.old)
-            → ComesFor result (replying (A.moves app.now) F.folder) self.new (L.taken link.new) (L.sent link.new) (L.ended link.new) }
+        ensures stands { ComesFor None (replying (A.moves app.now) F.folder) self.old (L.told link.old)
+            → ComesFor result (replying (A.moves app.now) F.folder) self.new (L.told link.new) }
         ensures running { self.new.over ≡ None }
         ensures nearer { IfNone result (to_go self.new < to_go self.old) }
-        ensures clocked { Clocked self.old self.new (C.given clock.old) (C.given clock.new) }
-        ensures goes { GoesOver result (L.faults link.old) (L.faults link.new) (L.waits link.old) (L.waits link.new) (F.faults files.old) (F.faults files.new) }
-        ensures plans { L.plan link.new ≡ L.plan link.old }
-        ensures rooted { F.rooted files.new ≡ F.rooted files.old }
-        ensures firm { F.firm files.new ≡ F.firm files.old }
-        ensures still { C.still clock.new ≡ C.still clock.old }
+        ensures clocked { Clocked self.old self.new (C.told clock.old) (C.told clock.new) }
+        ensures goes { GoesOver result (L.told link.old) (L.told link.new) (F.told files.old) (F.told files.new) }
     {
         match self.answer(files, app, clock) {
             Answered::Made => None,
@@ -57,11 +52,8 @@ impl<F: Files> Conn<F> {
         requires some { 0 < self.old.left }
         requires running { self.old.over ≡ None }
         requires ready { IsReadyStage self.old.stage }
-        ensures answers { AnswersTo result (replying (A.moves app.now) F.folder) self.old self.new (C.given clock.old) (C.given clock.new) }
-        ensures faulted { AnswerFaults result (F.faults files.old) (F.faults files.new) }
-        ensures rooted { F.rooted files.new ≡ F.rooted files.old }
-        ensures firm { F.firm files.new ≡ F.firm files.old }
-        ensures still { C.still clock.new ≡ C.still clock.old }
+        ensures answers { AnswersTo result (replying (A.moves app.now) F.folder) self.old self.new (C.told clock.old) (C.told clock.new) }
+        ensures faulted { AnswerFaults result (F.told files.old) (F.told files.new) }
     {
         let Phase::Ready { head, behind } = self.phase else {
             unreachable!()
@@ -105,8 +97,7 @@ impl<F: Files> Conn<F> {
         requires some { 0 < self.old.left }
         requires running { self.old.over ≡ None }
         requires phrase { IsRefusal code }
-        ensures refuses { (moment : ℕ) × Refuses code moment self.old self.new × Gains (C.given clock.old) (C.given clock.new) (moment ∷ []) }
-        ensures still { C.still clock.new ≡ C.still clock.old }
+        ensures { (moment : ℕ) × Refuses code moment self.old self.new × Gives (moment ∷ []) (C.told clock.old) (C.told clock.new) }
     {
         let moment = clock.now();
         let response = refusal(code);
@@ -124,11 +115,9 @@ impl<F: Files> Conn<F> {
     /// Writes the answers made, and then ends the connection. The caller owes that this is how it ends.
     pub(super) fn end<L: Link>(&mut self, link: &mut L, end: End) -> Step
         requires { MayEnd end self.old }
-        ensures stands { (reply : Option Replying) → ComesFor None reply self.old (L.taken link.old) (L.sent link.old) (L.ended link.old)
-            → ComesFor (Some result) reply self.new (L.taken link.new) (L.sent link.new) (L.ended link.new) }
+        ensures stands { (reply : Option Replying) → ComesFor None reply self.old (L.told link.old) → ComesFor (Some result) reply self.new (L.told link.new) }
         ensures same { self.new ≡ record self.old { pending = self.new.pending; full = self.new.full } }
-        ensures goes { EndsWith end result (L.faults link.old) (L.faults link.new) (L.waits link.old) (L.waits link.new) }
-        ensures plans { L.plan link.new ≡ L.plan link.old }
+        ensures goes { EndsWith end result (L.told link.old) (L.told link.new) }
     {
         match self.write_due(link) {
             None => Step::Done(end),
@@ -138,12 +127,10 @@ impl<F: Files> Conn<F> {
 
     /// Writes the answers made, where they must leave before another one comes. `None` comes where one may.
     pub(super) fn make_room<L: Link>(&mut self, link: &mut L) -> Option<Step>
-        ensures stands { (reply : Option Replying) → ComesFor None reply self.old (L.taken link.old) (L.sent link.old) (L.ended link.old)
-            → ComesFor result reply self.new (L.taken link.new) (L.sent link.new) (L.ended link.new) }
+        ensures stands { (reply : Option Replying) → ComesFor None reply self.old (L.told link.old) → ComesFor result reply self.new (L.told link.new) }
         ensures room { IfNone result (self.new.full ≡ false) }
         ensures same { self.new ≡ record self.old { pending = self.new.pending; full = self.new.full } }
-        ensures goes { Goes result (L.faults link.old) (L.faults link.new) (L.waits link.old) (L.waits link.new) }
-        ensures plans { L.plan link.new ≡ L.plan link.old }
+        ensures goes { Goes result (L.told link.old) (L.told link.new) }
     {
         if self.is_full() {
             self.write_due(link)
@@ -161,12 +148,10 @@ impl<F: Files> Conn<F> {
 
     /// Writes the answers made. `None` comes where all of them are written.
     pub(super) fn write_due<L: Link>(&mut self, link: &mut L) -> Option<Step>
-        ensures stands { (reply : Option Replying) → ComesFor None reply self.old (L.taken link.old) (L.sent link.old) (L.ended link.old)
-            → ComesFor result reply self.new (L.taken link.new) (L.sent link.new) (L.ended link.new) }
+        ensures stands { (reply : Option Replying) → ComesFor None reply self.old (L.told link.old) → ComesFor result reply self.new (L.told link.new) }
         ensures done { IfNone result ((self.new.pending ≡ []) × (self.new.full ≡ false)) }
         ensures same { self.new ≡ record self.old { pending = self.new.pending; full = self.new.full } }
-        ensures goes { Goes result (L.faults link.old) (L.faults link.new) (L.waits link.old) (L.waits link.new) }
-        ensures plans { L.plan link.new ≡ L.plan link.old }
+        ensures goes { Goes result (L.told link.old) (L.told link.new) }
     {
         match self.flush(link) {
             WriteEnd::All => None,
@@ -177,11 +162,7 @@ impl<F: Files> Conn<F> {
 
     /// Writes what is to be written.
     fn flush<L: Link>(&mut self, link: &mut L) -> WriteEnd
-        ensures sends { Sends result self.old self.new (L.sent link.old) (L.sent link.new) }
-        ensures counts { CountsWrites result (L.faults link.old) (L.faults link.new) (L.waits link.old) (L.waits link.new) }
-        ensures takes { L.taken link.new ≡ L.taken link.old }
-        ensures ends { L.ended link.new ≡ L.ended link.old }
-        ensures plans { L.plan link.new ≡ L.plan link.old }
+        ensures { Sends result self.old self.new (L.told link.old) (L.told link.new) }
     {
         self.output.flush(link)
     }

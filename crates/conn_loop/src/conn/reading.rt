@@ -1,6 +1,6 @@
 // What is ahead of a connection: its input is read and judged, and bodies are read on.
-ghost use Rattle.std.specs.Prelude.{◌≡◌, ◌≤◌, ◌<◌, ◌++◌, ◌||◌, ◌↔◌, IsTrue, option_map, ℕ, Bool, List, [], Option, Some, None, IfNone, length, false};
-ghost use Rattle.outside.specs.Causes.{ReadFaults, ReadWaits, is_end};
+ghost use Rattle.std.specs.Prelude.{◌≡◌, ◌≤◌, ◌<◌, ◌++◌, ◌↔◌, IsTrue, ℕ, List, [], Option, None, IfNone, length, false};
+ghost use Rattle.outside.specs.Causes.{LinkTold};
 ghost use Rattle.warp_request.specs.Lines.{skip_empty};
 ghost use Rattle.warp_request.specs.Next.{next_of};
 ghost use Rattle.warp_request.specs.Verdict.{asked};
@@ -24,8 +24,7 @@ impl<F: Files> Conn<F> {
     /// What is ahead. A body is read on where it was left.
     pub(super) fn look(&mut self) -> Ahead
         requires running { self.old.over ≡ None }
-        ensures stands { (reply : Option Replying) (taken sent : Option (List ℕ)) (ended : Option Bool)
-            → ComesFor None reply self.old taken sent ended → ComesFor None reply self.new taken sent ended }
+        ensures stands { (reply : Option Replying) (link : LinkTold) → ComesFor None reply self.old link → ComesFor None reply self.new link }
         ensures is { AheadOf result self.new.stage self.new.input }
         ensures nearer { to_go self.new ≤ to_go self.old }
         ensures same { self.new ≡ record self.old { input = self.new.input; stage = self.new.stage } }
@@ -37,8 +36,7 @@ impl<F: Files> Conn<F> {
     /// Reads on in the body that is read, if one is.
     fn read_body(&mut self)
         requires running { self.old.over ≡ None }
-        ensures stands { (reply : Option Replying) (taken sent : Option (List ℕ)) (ended : Option Bool)
-            → ComesFor None reply self.old taken sent ended → ComesFor None reply self.new taken sent ended }
+        ensures stands { (reply : Option Replying) (link : LinkTold) → ComesFor None reply self.old link → ComesFor None reply self.new link }
         ensures read { IsReadUp self.new.stage self.new.input }
         ensures nearer { to_go self.new ≤ to_go self.old }
         ensures same { self.new ≡ record self.old { input = self.new.input; stage = self.new.stage } }
@@ -72,8 +70,7 @@ impl<F: Files> Conn<F> {
         requires room { self.old.full ≡ false }
         requires some { 0 < self.old.left }
         requires unread { self.old.stage ≡ unread }
-        ensures stands { (reply : Option Replying) (taken sent : Option (List ℕ)) (ended : Option Bool)
-            → ComesFor None reply self.old taken sent ended → ComesFor None reply self.new taken sent ended }
+        ensures stands { (reply : Option Replying) (link : LinkTold) → ComesFor None reply self.old link → ComesFor None reply self.new link }
         ensures nearer { to_go self.new < to_go self.old }
         ensures same { self.new ≡ record self.old { input = self.new.input; stage = self.new.stage; pending = self.new.pending; full = self.new.full } }
     {
@@ -91,8 +88,7 @@ impl<F: Files> Conn<F> {
         requires unread { self.old.stage ≡ unread }
         requires inside { HasHead self.old.input head }
         requires asks { (t : List ℕ) → next_of (self.old.input ++ t) ≡ asked (asked_in self.old.input head) }
-        ensures stands { (reply : Option Replying) (taken sent : Option (List ℕ)) (ended : Option Bool)
-            → ComesFor None reply self.old taken sent ended → ComesFor None reply self.new taken sent ended }
+        ensures stands { (reply : Option Replying) (link : LinkTold) → ComesFor None reply self.old link → ComesFor None reply self.new link }
         ensures nearer { to_go self.new < to_go self.old }
         ensures same { self.new ≡ record self.old { input = self.new.input; stage = self.new.stage; pending = self.new.pending; full = self.new.full } }
     {
@@ -108,12 +104,10 @@ impl<F: Files> Conn<F> {
         requires running { self.old.over ≡ None }
         requires some { 0 < self.old.left }
         requires wanting { IsWanting self.old.stage self.old.input }
-        ensures stands { (reply : Option Replying) → ComesFor None reply self.old (L.taken link.old) (L.sent link.old) (L.ended link.old)
-            → ComesFor result reply self.new (L.taken link.new) (L.sent link.new) (L.ended link.new) }
+        ensures stands { (reply : Option Replying) → ComesFor None reply self.old (L.told link.old) → ComesFor result reply self.new (L.told link.new) }
         ensures nearer { IfNone result (to_go self.new < to_go self.old) }
         ensures same { self.new ≡ record self.old { input = self.new.input; stage = self.new.stage; pending = self.new.pending; full = self.new.full } }
-        ensures goes { Goes result (L.faults link.old) (L.faults link.new) (L.waits link.old) (L.waits link.new) }
-        ensures plans { L.plan link.new ≡ L.plan link.old }
+        ensures goes { Goes result (L.told link.old) (L.told link.new) }
     {
         if let Some(step) = self.write_due(link) {
             return Some(step);
@@ -132,13 +126,8 @@ impl<F: Files> Conn<F> {
         requires written { self.old.pending ≡ [] }
         requires room { length self.old.input < ROOM }
         requires running { self.old.over ≡ None }
-        ensures takes { Takes result self.old.input self.new.input (L.taken link.old) (L.taken link.new) }
+        ensures takes { Takes result self.old.input self.new.input (L.told link.old) (L.told link.new) }
         ensures same { self.new ≡ record self.old { input = self.new.input; stage = stage_after result self.old.stage } }
-        ensures sends { L.sent link.new ≡ L.sent link.old }
-        ensures ends { L.ended link.new ≡ option_map (λ e. e || is_end result) (L.ended link.old) }
-        ensures plans { L.plan link.new ≡ L.plan link.old }
-        ensures faulted { ReadFaults result (L.faults link.old) (L.faults link.new) }
-        ensures waited { ReadWaits result (L.waits link.old) (L.waits link.new) }
     {
         let out = self.input.fill(link);
         if let ReadOut::Got(_) = out {

@@ -1,4 +1,4 @@
-use Rattle.std.proofs.Common.{◌∙◌, arith, length-drop, drop, List, ℕ, subst, IfSome}
+use Rattle.std.proofs.Common.{rules, ◌∙◌, arith, length-drop, drop, List, ℕ, subst, IfSome}
 use Rattle.outside.specs.FileCauses.{ReadsFrom}
 use Rattle.outside.specs.declared.files.PartOut.TheVariants as Parts
 use Rattle.conn_loop.proofs.ReplyLemmas.{same_more}
@@ -14,7 +14,5 @@ loop-at-preserved g c =
       path = is.path ∙ was.path;
       same = same_more g.F.Files.folder _ c.loop-at.content new c.loop-at.at c.in-Got.n is.same was.same
           (subst (λ (p : List ℕ). IfSome g.F.Files.folder (λ f. ReadsFrom f p c.loop-at.at (drop c.loop-at.at new) (Parts.Got c.in-Got.n))) was.path is.reads);
-      later = omega (arith, is.faulted, was.later);
-      rooted = is.rooted ∙ was.rooted;
-      firm = is.firm ∙ was.firm;
+      keeps = search rules;
     }

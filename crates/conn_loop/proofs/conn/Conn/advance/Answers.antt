@@ -4,10 +4,10 @@ use Rattle.conn_loop.proofs.conn.Conn.advance.Goals as goal
 
 pub returns-in-Some-clause-prefix : goal.returns-in-Some-clause-prefix
 returns-in-Some-clause-prefix g c =
-    prefix_for (replying (g.A.App.moves c.args.app.now) g.F.Files.folder) c.args.self.now _ _ (g.L.Link.ended c.args.link.now) c.requires
+    prefix_for (replying (g.A.App.moves c.args.app.now) g.F.Files.folder) c.args.self.now (g.L.Link.told c.args.link.now) c.requires
 
 pub returns-clause-prefix : goal.returns-clause-prefix
 returns-clause-prefix g c =
     let reply = replying (g.A.App.moves c.args.app.now) g.F.Files.folder in
-    prefix_for reply c.keep.new.self _ _ (g.L.Link.ended c.go_on-step.new.link)
-    (kept_for c.go_on-step.result reply c.go_on-step.new.self c.keep.new.self _ _ _ c.keep.ensures c.go_on-step.ensures.stands)
+    let link = g.L.Link.told c.go_on-step.new.link in
+    prefix_for reply c.keep.new.self link (kept_for c.go_on-step.result reply c.go_on-step.new.self c.keep.new.self link c.keep.ensures c.go_on-step.ensures.stands)

@@ -12,7 +12,7 @@ use Rattle.conn_loop.proofs.conn.Conn.begin.Goals as goal
 use Rattle.conn_loop.proofs.conn.Conn.begin.Goals.{then-head, else-head}
 
 pub returns-clause-stands : goal.returns-clause-stands
-returns-clause-stands g c = λ reply taken sent ended x.
+returns-clause-stands g c = λ reply link x.
     let old = c.args.self.now in
     let head = c.args.head in
     let a = asked_in old.input head in
@@ -43,7 +43,7 @@ returns-clause-stands g c = λ reply taken sent ended x.
     ] in
     let parts : old.input ≡ take head.head_len c.if-head.self-inside.input ++ drop head.head_len c.if-head.self-inside.input =
     sym (take-append-drop head.head_len old.input) ∙ ap (λ (v : List ℕ). take head.head_len v ++ drop head.head_len v) (sym here) in
-    given_for reply old _ taken sent ended (interim_by (asked a)) c.requires.some c.requires.unread
+    given_for reply old _ link (interim_by (asked a)) c.requires.some c.requires.unread
     moments left pending
     (λ after. interim_is (old.input ++ after) (asked a) (c.requires.asks after))
     (c.read_on-self-inside.ensures.lies [] old.input c.new-reader.ensures parts

@@ -1,5 +1,6 @@
-use Rattle.std.proofs.Common.{◌∙◌, refl, arith}
-use Rattle.conn_loop.proofs.StepLemmas.{clocked_then, fault_from, some_left}
+use Rattle.std.proofs.Common.{refl, None, Some}
+use Rattle.conn_loop.specs.declared.step.End.TheVariants.{Clean}
+use Rattle.conn_loop.proofs.StepLemmas.{clocked_then, ends_over, files_none, goes_then, some_left}
 use Rattle.conn_loop.proofs.conn.Conn.go_on.Goals as goal
 
 pub step-requires-clause-some : goal.step-requires-clause-some
@@ -8,26 +9,20 @@ step-requires-clause-some g c = some_left c.requests.self.left c.is_closed.resul
 pub requests-preserved : goal.requests-preserved
 requests-preserved g c =
     let was = c.requests.invariant in
-    let goes = c.step.ensures.goes in
     record {
       stands = c.in_default.ensures.stands was.stands;
       running = c.step.ensures.running;
       clocked = clocked_then c.args.self.now c.requests.self c.step.new.self _ _ _ was.clocked c.step.ensures.clocked;
-      reads = omega (arith, goes.reads, was.reads);
-      writes = omega (arith, goes.writes, was.writes);
-      waits = c.in_default.ensures.goes.counts ∙ was.waits;
-      files = omega (arith, goes.files_later, was.files);
-      plans = c.step.ensures.plans ∙ was.plans;
-      rooted = c.step.ensures.rooted ∙ was.rooted;
-      firm = c.step.ensures.firm ∙ was.firm;
-      still = c.step.ensures.still ∙ was.still;
+      goes = goes_then None (g.L.Link.told c.args.link.now) (g.L.Link.told c.requests.link) (g.L.Link.told c.step.new.link)
+          (g.F.Files.told c.args.files.now) (g.F.Files.told c.requests.files) (g.F.Files.told c.step.new.files) was.goes c.in_default.ensures.goes;
     }
 
 pub requests-smaller : goal.requests-smaller
 requests-smaller g c = c.in_default.ensures.nearer
 
-pub returns-clause-cause : goal.returns-clause-cause
-returns-clause-cause g c =
-    fault_from c.end.result (g.L.Link.faults c.args.link.now) (g.L.Link.faults c.requests.link) (g.L.Link.faults c.end.new.link)
-    (g.F.Files.faults c.args.files.now) (g.F.Files.faults c.requests.files) (g.F.Files.faults c.requests.files)
-    c.requests.invariant.reads c.requests.invariant.writes c.requests.invariant.files (c.end.ensures.goes.cause _ _ tt)
+pub returns-clause-goes : goal.returns-clause-goes
+returns-clause-goes g c =
+    let files = g.F.Files.told c.requests.files in
+    goes_then (Some c.end.result) (g.L.Link.told c.args.link.now) (g.L.Link.told c.requests.link) (g.L.Link.told c.end.new.link)
+    (g.F.Files.told c.args.files.now) files files c.requests.invariant.goes
+    (ends_over Clean c.end.result (g.L.Link.told c.requests.link) (g.L.Link.told c.end.new.link) files files (files_none files) tt c.end.ensures.goes)

@@ -12,7 +12,7 @@ fill-requires-clause-room g c =
 
 pub returns-in-Got-clause-stands : goal.returns-in-Got-clause-stands
 returns-in-Got-clause-stands g c = λ reply x.
-    got_for _ reply c.write_due.new.self c.fill.new.self _ _ _ _ _ _ c.in-Got.ensures.takes c.in-Got.ensures.same c.fill.ensures.sends c.in-Got.ensures.ends
+    got_for _ reply c.write_due.new.self c.fill.new.self (g.L.Link.told c.write_due.new.link) (g.L.Link.told c.fill.new.link) c.in-Got.ensures.takes c.in-Got.ensures.same
     (c.in_default.ensures.stands reply x)
 
 pub returns-in-Got-clause-nearer : goal.returns-in-Got-clause-nearer
@@ -22,25 +22,25 @@ returns-in-Got-clause-nearer g c =
 pub returns-in-End-clause-stands : goal.returns-in-End-clause-stands
 returns-in-End-clause-stands g c = λ reply x.
     let between = c.is_between.ensures.0 c.if-is_between.true in
-    stop_for (Done Clean) c.fill.result reply c.write_due.new.self c.fill.new.self _ _ _ _ _ _ (c.in-End.is, between.0, between.1)
+    stop_for (Done Clean) c.fill.result reply c.write_due.new.self c.fill.new.self (g.L.Link.told c.write_due.new.link) (g.L.Link.told c.fill.new.link) (c.in-End.is, between.0, between.1)
     (idle_of c.args.self.now c.write_due.new.self c.write_due.ensures.same c.in_default.ensures.done.0 c.requires.some c.requires.wanting)
-    c.fill.ensures.takes c.fill.ensures.same c.fill.ensures.sends c.fill.ensures.ends (c.in_default.ensures.stands reply x)
+    c.fill.ensures.takes c.fill.ensures.same (c.in_default.ensures.stands reply x)
 
 pub returns-in-End-2-clause-stands : goal.returns-in-End-2-clause-stands
 returns-in-End-2-clause-stands g c = λ reply x.
-    stop_for (Done Cut) c.fill.result reply c.write_due.new.self c.fill.new.self _ _ _ _ _ _
+    stop_for (Done Cut) c.fill.result reply c.write_due.new.self c.fill.new.self (g.L.Link.told c.write_due.new.link) (g.L.Link.told c.fill.new.link)
     (c.in-End-2.is, λ e. both_ways c.is_between.result c.if-is_between.false (c.is_between.ensures.1 e))
     (idle_of c.args.self.now c.write_due.new.self c.write_due.ensures.same c.in_default.ensures.done.0 c.requires.some c.requires.wanting)
-    c.fill.ensures.takes c.fill.ensures.same c.fill.ensures.sends c.fill.ensures.ends (c.in_default.ensures.stands reply x)
+    c.fill.ensures.takes c.fill.ensures.same (c.in_default.ensures.stands reply x)
 
 pub returns-in-NotYet-clause-stands : goal.returns-in-NotYet-clause-stands
 returns-in-NotYet-clause-stands g c = λ reply x.
-    stop_for WantRead c.fill.result reply c.write_due.new.self c.fill.new.self _ _ _ _ _ _ c.in-NotYet.is
+    stop_for WantRead c.fill.result reply c.write_due.new.self c.fill.new.self (g.L.Link.told c.write_due.new.link) (g.L.Link.told c.fill.new.link) c.in-NotYet.is
     (idle_of c.args.self.now c.write_due.new.self c.write_due.ensures.same c.in_default.ensures.done.0 c.requires.some c.requires.wanting)
-    c.fill.ensures.takes c.fill.ensures.same c.fill.ensures.sends c.fill.ensures.ends (c.in_default.ensures.stands reply x)
+    c.fill.ensures.takes c.fill.ensures.same (c.in_default.ensures.stands reply x)
 
 pub returns-in-Failed-clause-stands : goal.returns-in-Failed-clause-stands
 returns-in-Failed-clause-stands g c = λ reply x.
-    stop_for (Done ReadFault) c.fill.result reply c.write_due.new.self c.fill.new.self _ _ _ _ _ _ c.in-Failed.is
+    stop_for (Done ReadFault) c.fill.result reply c.write_due.new.self c.fill.new.self (g.L.Link.told c.write_due.new.link) (g.L.Link.told c.fill.new.link) c.in-Failed.is
     (idle_of c.args.self.now c.write_due.new.self c.write_due.ensures.same c.in_default.ensures.done.0 c.requires.some c.requires.wanting)
-    c.fill.ensures.takes c.fill.ensures.same c.fill.ensures.sends c.fill.ensures.ends (c.in_default.ensures.stands reply x)
+    c.fill.ensures.takes c.fill.ensures.same (c.in_default.ensures.stands reply x)

@@ -3,10 +3,10 @@ use Rattle.conn_loop.proofs.StepLemmas.{due_for}
 use Rattle.conn_loop.proofs.conn.Conn.write_due.Goals as goal
 
 pub returns-in-All-clause-stands : goal.returns-in-All-clause-stands
-returns-in-All-clause-stands g c = λ reply x. due_for All reply _ _ _ _ _ _ _ _ c.in-All.ensures.sends c.flush.ensures.takes c.flush.ensures.ends x
+returns-in-All-clause-stands g c = λ reply x. due_for All reply _ _ (g.L.Link.told c.args.link.now) (g.L.Link.told c.flush.new.link) c.in-All.ensures x
 
 pub returns-in-Waits-clause-stands : goal.returns-in-Waits-clause-stands
-returns-in-Waits-clause-stands g c = λ reply x. due_for Waits reply _ _ _ _ _ _ _ _ c.in-Waits.ensures.sends c.flush.ensures.takes c.flush.ensures.ends x
+returns-in-Waits-clause-stands g c = λ reply x. due_for Waits reply _ _ (g.L.Link.told c.args.link.now) (g.L.Link.told c.flush.new.link) c.in-Waits.ensures x
 
 pub returns-in-Fails-clause-stands : goal.returns-in-Fails-clause-stands
-returns-in-Fails-clause-stands g c = λ reply x. due_for Fails reply _ _ _ _ _ _ _ _ c.in-Fails.ensures.sends c.flush.ensures.takes c.flush.ensures.ends x
+returns-in-Fails-clause-stands g c = λ reply x. due_for Fails reply _ _ (g.L.Link.told c.args.link.now) (g.L.Link.told c.flush.new.link) c.in-Fails.ensures x
