@@ -1,9 +1,9 @@
 -- Parts of a turn that go on, and parts that end it, one after another.
-use Rattle.std.proofs.Common.{◌≡◌, ℕ, suc, ◌⊎◌, ⊎_elim, List, [], ◌∷◌, ◌++◌, length, map, refl, ap, subst, arith}
+use Rattle.std.proofs.Common.{◌≡◌, ℕ, suc, ◌⊎◌, inl, inr, ⊎_elim, List, [], ◌∷◌, ◌++◌, length, map, refl, sym, ap, ◌∙◌, subst, arith}
 use Rattle.std.specs.Prelude.{Option, Some, None, Result, Ok, Err, IfOk, IfErr, MatchOption, false}
+use Rattle.std.proofs.lemmas.List.{append-nil}
 use Rattle.reg_keys.specs.declared.opening.Opening.{Opening}
 use Rattle.reg_keys.specs.declared.event.EventName.{EventName}
-use Rattle.reg_keys.specs.declared.registration.Key.{Key}
 use Rattle.reg_keys.specs.declared.entry.FiredKey.{FiredKey}
 use Rattle.stripe_table.specs.declared.calls.Fired.{Fired}
 use Rattle.stripe_table.specs.Calls.{fired_key}
@@ -16,13 +16,14 @@ use Rattle.ready_queue.specs.Calls.{view_of, HasMoved, WasFull}
 use Rattle.reg_keys.specs.declared.entry.Entry.{Entry}
 use Rattle.poller.specs.Polls.{Report}
 use Rattle.event_mgr.specs.Manager.{MgrView, EnteredAt, SpentAt, mgr_view}
+use Rattle.dispatcher.specs.Meanings.{RunnerMeaning}
 use Rattle.dispatcher.specs.declared.pass.DispPass.{DispPass}
 use Rattle.dispatcher.specs.declared.turned.Halt.{Halt}
 use Rattle.dispatcher.specs.Entries.{firings, fired_by, reported_by}
 use Rattle.dispatcher.specs.Books.{IsAccounted}
 use Rattle.dispatcher.specs.Dealing.{HasDealt, HasDealtAny}
 use Rattle.dispatcher.specs.Firings.{job_keys_of}
-use Rattle.dispatcher.specs.Turns.{book_of, book_with, work_with, HasRunKeys, HasHalted, HasMetSpent, HasReportedOne, HasLeftReports}
+use Rattle.dispatcher.specs.Turns.{book_of, book_with, work_with, HasRunKeys, HasHalted, HasMetSpent, HasReportedOne, HasLeftReports, RefusedAt}
 use Rattle.dispatcher.specs.declared.turned.Halt.TheVariants as Halts
 use Rattle.dispatcher.proofs.Grown.{grown_then}
 use Rattle.dispatcher.proofs.Accounts.{balanced_then, accounted_then}
@@ -70,66 +71,72 @@ pub fired_length : {T : Type 0} (tag : T → List (List ℕ)) (o : Opening) (lis
 fired_length tag o [] = refl
 fired_length tag o (f ∷ fs) = ap suc (fired_length tag o fs)
 
-module _ {X : Type 0} (runs shuts : X → Option (List Key)) (keeps : X → X → Type 0) (on : (x y z : X) → keeps x y → keeps y z → keeps x z) where
+-- where nothing was refused
+pub none_refused : (halt : Halt) (reported : List Report) → RefusedAt halt [] reported
+none_refused (Halts.Stop code) reported = refl
+none_refused Halts.Spent reported = inl refl
+
+module _ {X P : Type 0} (meaning : RunnerMeaning X P) (on : (x y z : X) → meaning.keeps x y → meaning.keeps y z → meaning.keeps x z) where
   -- a part went on, and the next one ended the turn
   pub halted_then : {T : Type 0} (capacity n : ℕ) (loose next later coming : List EventName) (p : DispPass T) (x : X) (q : DispPass T) (y : X) (halt : Halt) (r : DispPass T) (z : X)
-      → IsAccounted capacity (book_with loose next p) (book_with later coming q) → HasRunKeys runs shuts keeps n (work_with [] [] p) x (work_with [] [] q) y → HasHalted runs shuts keeps later coming [] q y halt r z → HasHalted runs shuts keeps loose next [] p x halt r z
+      → IsAccounted capacity (book_with loose next p) (book_with later coming q) → HasRunKeys meaning n (work_with [] [] p) x (work_with [] [] q) y → HasHalted meaning later coming [] q y halt r z → HasHalted meaning loose next [] p x halt r z
   halted_then capacity n loose next later coming p x q y halt r z a w k = record {
     balanced = balanced_then (book_with loose next p) (book_with later coming q) (book_with [] [] r) a.balanced k.balanced;
     queue = grown_then (view_of p.queue) (view_of q.queue) (view_of r.queue) a.queue k.queue;
     back = k.back;
-    work = worked_then runs shuts keeps on (job_keys_of k.back) (work_with [] [] p) x (work_with [] [] q) y (work_with k.back [] r) z w.0 k.work;
+    work = worked_then meaning on (job_keys_of k.back) (work_with [] [] p) x (work_with [] [] q) y (work_with k.back [] r) z w.0 k.work;
     cause = cause_later (mgr_view p.mgr) (mgr_view q.mgr) halt (mgr_view r.mgr) w.0.grown k.cause;
   }
 
   -- a part went on over pairs, and the next one ended the turn
   pub left_then : {T : Type 0} (capacity n : ℕ) (p : DispPass T) (x : X) (pairs : List Report) (q : DispPass T) (y : X) (left : List Report) (halt : Halt) (r : DispPass T) (z : X)
-      → IsAccounted capacity (book_of p) (book_of q) → HasRunKeys runs shuts keeps n (work_with [] pairs p) x (work_with [] left q) y → HasHalted runs shuts keeps [] [] [] q y halt r z → HasLeftReports runs shuts keeps p x pairs halt r z left
+      → IsAccounted capacity (book_of p) (book_of q) → HasRunKeys meaning n (work_with [] pairs p) x (work_with [] left q) y → HasHalted meaning [] [] [] q y halt r z → HasLeftReports meaning p x pairs halt r z left
   left_then capacity n p x pairs q y left halt r z a w k = record {
     balanced = balanced_then (book_of p) (book_of q) (book_of r) a.balanced k.balanced;
     queue = grown_then (view_of p.queue) (view_of q.queue) (view_of r.queue) a.queue k.queue;
     back = k.back;
     refused = [];
     rest = left;
-    work = worked_then runs shuts keeps on (job_keys_of k.back) (work_with [] pairs p) x (work_with [] left q) y (work_with k.back left r) z w.0
-        (more_pairs runs shuts keeps (job_keys_of k.back) (mgr_view q.mgr) (mgr_view r.mgr) [] k.back [] [] left y z k.work);
+    work = worked_then meaning on (job_keys_of k.back) (work_with [] pairs p) x (work_with [] left q) y (work_with k.back left r) z w.0
+        (more_pairs meaning (job_keys_of k.back) (mgr_view q.mgr) (mgr_view r.mgr) [] k.back [] [] left y z k.work);
     left_is = refl;
-    few = omega arith;
+    was_last = none_refused halt _;
     cause = cause_later (mgr_view p.mgr) (mgr_view q.mgr) halt (mgr_view r.mgr) w.0.grown k.cause;
   }
 
   -- a part went on over pairs, and the report of the next one was refused as spent
   pub left_refused : {T : Type 0} (capacity n : ℕ) (p : DispPass T) (x : X) (pairs : List Report) (q : DispPass T) (y : X) (pair : Report) (rest left : List Report) (r : DispPass T)
-      → IsAccounted capacity (book_of p) (book_of q) → HasRunKeys runs shuts keeps n (work_with [] pairs p) x (work_with [] left q) y → left ≡ pair ∷ rest → HasReportedOne runs shuts keeps capacity pair q y false r → HasLeftReports runs shuts keeps p x pairs Halts.Spent r y left
+      → IsAccounted capacity (book_of p) (book_of q) → HasRunKeys meaning n (work_with [] pairs p) x (work_with [] left q) y → left ≡ pair ∷ rest → HasReportedOne meaning capacity pair q y false r → HasLeftReports meaning p x pairs Halts.Spent r y left
+  unfolding worked_then more_pairs
   left_refused {T} capacity n p x pairs q y pair rest left r a w is k =
-      let w' = subst (λ (l : List Report). HasRunKeys runs shuts keeps n (work_with [] pairs p) x (work_with [] l q) y) is w in
+      let w' = subst (λ (l : List Report). HasRunKeys meaning n (work_with [] pairs p) x (work_with [] l q) y) is w in
       let b = accounted_then capacity (book_of p) (book_of q) (book_of r) a k.0 in
       let c : HasMetSpent (mgr_view p.mgr) (mgr_view r.mgr) = met_later (mgr_view p.mgr) (mgr_view q.mgr) (mgr_view r.mgr) w.0.grown k.1 in ⊎_elim
-      (λ (t : HasRunKeys runs shuts keeps 0 (work_with [] (pair ∷ []) q) y (work_with [] [] r) y). record {
+      (λ (t : HasRunKeys meaning 0 (work_with [] (pair ∷ []) q) y (work_with [] [] r) y). record {
         balanced = b.balanced;
         queue = b.queue;
         back = [];
         refused = pair ∷ [];
         rest = rest;
-        work = worked_then runs shuts keeps on [] (work_with [] pairs p) x (work_with [] (pair ∷ rest) q) y (work_with [] rest r) y w'.0 (more_pairs runs shuts keeps [] (mgr_view q.mgr) (mgr_view r.mgr) [] [] (pair ∷ []) [] rest y y t.0);
+        work = worked_then meaning on [] (work_with [] pairs p) x (work_with [] (pair ∷ rest) q) y (work_with [] rest r) y w'.0 (more_pairs meaning [] (mgr_view q.mgr) (mgr_view r.mgr) [] [] (pair ∷ []) [] rest y y t.0);
         left_is = is;
-        few = omega arith;
+        was_last = inr (w'.0.reported, pair, refl, ap (λ (l : List Report). w'.0.reported ++ l) (sym (t.0.each_once ∙ append-nil t.0.reported)));
         cause = c;
       })
-      (λ (t : HasRunKeys runs shuts keeps 0 (work_with [] (pair ∷ []) q) y (work_with [] (pair ∷ []) r) y). record {
+      (λ (t : HasRunKeys meaning 0 (work_with [] (pair ∷ []) q) y (work_with [] (pair ∷ []) r) y). record {
         balanced = b.balanced;
         queue = b.queue;
         back = [];
         refused = [];
         rest = pair ∷ rest;
-        work = worked_then runs shuts keeps on [] (work_with [] pairs p) x (work_with [] (pair ∷ rest) q) y (work_with [] (pair ∷ rest) r) y w'.0 (more_pairs runs shuts keeps [] (mgr_view q.mgr) (mgr_view r.mgr) [] [] (pair ∷ []) (pair ∷ []) rest y y t.0);
+        work = worked_then meaning on [] (work_with [] pairs p) x (work_with [] (pair ∷ rest) q) y (work_with [] (pair ∷ rest) r) y w'.0 (more_pairs meaning [] (mgr_view q.mgr) (mgr_view r.mgr) [] [] (pair ∷ []) (pair ∷ []) rest y y t.0);
         left_is = is;
-        few = omega arith;
+        was_last = inl refl;
         cause = c;
       })
       k.2
 
-module _ {X : Type 0} (runs shuts : X → Option (List Key)) (keeps : X → X → Type 0) (same : (x : X) → keeps x x) where
+module _ {X P : Type 0} (meaning : RunnerMeaning X P) (same : (x : X) → meaning.keeps x x) where
   -- a call was refused as spent, with an entry or without one
-  pub refused_work : (v w : MgrView) (x : X) (ps : List Report) (s : ℕ) (e : Entry) → EnteredAt s e v w ⊎ SpentAt s v w → fired_by e ≡ [] → reported_by e ≡ [] → RunKeys runs shuts keeps 0 (work v [] ps) x (work w [] ps) x
-  refused_work v w x ps s e c f r = ⊎_elim (λ t. idle_step runs shuts keeps same v w x ps s e t f r) (λ t. spent_step runs shuts keeps same v w x ps s t) c
+  pub refused_work : (v w : MgrView) (x : X) (ps : List Report) (s : ℕ) (e : Entry) → EnteredAt s e v w ⊎ SpentAt s v w → fired_by e ≡ [] → reported_by e ≡ [] → RunKeys meaning 0 (work v [] ps) x (work w [] ps) x
+  refused_work v w x ps s e c f r = ⊎_elim (λ t. idle_step meaning same v w x ps s e t f r) (λ t. spent_step meaning same v w x ps s t) c

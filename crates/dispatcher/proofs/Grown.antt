@@ -1,5 +1,5 @@
 -- Passes grow from call to call.
-use Rattle.std.proofs.Common.{◌≡◌, ℕ, zero, suc, List, [], ◌∷◌, set, sym, refl, ◌∙◌, subst}
+use Rattle.std.proofs.Common.{◌≡◌, ℕ, zero, suc, List, [], ◌∷◌, set, true, sym, refl, ◌∙◌, subst}
 use Rattle.std.specs.Prelude.{slice_get, Some}
 use mathlib.Core.List.{IsPrefix}
 use Rattle.std.proofs.lemmas.Option.{none-some, same_Some}
@@ -16,7 +16,7 @@ use Rattle.dispatcher.proofs.Lists.{begins_same, begins_then, begins_two, begins
 
 module _ {E : Type 0} where
   pub grown_same : (v : View E) → HasGrown v v
-  grown_same v = record { name = refl; classes = refl; seen = begins_same v.seen; own = begins_same (own_entries v) }
+  grown_same v = record { name = refl; classes = refl; seen = begins_same v.seen; own = begins_same (own_entries v); met = λ m. m }
 
   pub grown_then : (u v w : View E) → HasGrown u v → HasGrown v w → HasGrown u w
   grown_then u v w p q = record {
@@ -24,14 +24,16 @@ module _ {E : Type 0} where
     classes = q.classes ∙ p.classes;
     seen = begins_then u.seen v.seen w.seen p.seen q.seen;
     own = begins_then (own_entries u) (own_entries v) (own_entries w) p.own q.own;
+    met = λ m. q.met (p.met m);
   }
 
-  pub grown_as : (v w : View E) → w.name ≡ v.name → w.seen ≡ v.seen → w.classes ≡ v.classes → HasGrown v w
-  grown_as v w name seen classes = let own : own_entries w ≡ own_entries v = λ i. entries_in (classes i) (seen i) in record {
+  pub grown_as : (v w : View E) → w.name ≡ v.name → w.seen ≡ v.seen → w.classes ≡ v.classes → (v.met_spent ≡ true → w.met_spent ≡ true) → HasGrown v w
+  grown_as v w name seen classes met = let own : own_entries w ≡ own_entries v = λ i. entries_in (classes i) (seen i) in record {
     name = name;
     classes = classes;
     seen = subst (λ (l : Log E). IsPrefix v.seen l) (sym seen) (begins_same v.seen);
     own = subst (λ (l : Log E). IsPrefix (own_entries v) l) (sym own) (begins_same (own_entries v));
+    met = met;
   }
 
 module _ {V : Type 0} (R : V → V → Type 0) (same : (v : V) → R v v) where
@@ -74,19 +76,20 @@ only_at_grown s R of v w a = record {
   numbers = subst (λ z. HasGrown v.numbers z) (sym a.numbers) (grown_same v.numbers);
 }
 
-entered_stripe : (e : Entry) (x y : View Entry) → StripeEntered e x y → HasGrown x y
+pub entered_stripe : (e : Entry) (x y : View Entry) → StripeEntered e x y → HasGrown x y
 entered_stripe e x y k = record {
   name = k.name;
   classes = k.classes;
   seen = begins_two x.seen k.between ((seat_of x, e) ∷ []) y.seen k.seen;
   own = begins_one (own_entries x) ((seat_of x, e) ∷ []) (own_entries y) k.own;
+  met = λ m. k.met_spent ∙ m;
 }
 
 pub entered_grown : (s : ℕ) (e : Entry) (v w : MgrView) → EnteredAt s e v w → AllGrown v w
 entered_grown s e v w a = only_at_grown s (StripeEntered e) (entered_stripe e) v w a
 
 pub spent_grown : (s : ℕ) (v w : MgrView) → SpentAt s v w → AllGrown v w
-spent_grown s v w a = only_at_grown s StripeSpent (λ x y k. grown_as x y k.unmoved.name k.unmoved.seen k.unmoved.classes) v w a
+spent_grown s v w a = only_at_grown s StripeSpent (λ x y k. grown_as x y k.unmoved.name k.unmoved.seen k.unmoved.classes (λ _. k.met_spent)) v w a
 
 pub run_grown : (v : MgrView) (r : AfterRun) (w : MgrView) → HasRun v r w → AllGrown v w
 run_grown v r w k = record { stripes = each_of RunsAt HasGrown (λ x y h. h.grown) v.stripes w.stripes k.stripes; numbers = k.numbers }

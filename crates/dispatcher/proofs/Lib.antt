@@ -11,4 +11,4 @@ pub mod Replies
 pub mod Ends
 pub mod Parts
 pub mod Rotates
-pub mod Idle
+pub mod Calls

@@ -1,9 +1,10 @@
 -- The parts of a turn, put together.
-use Rattle.std.proofs.Common.{◌≡◌, ℕ, ◌+◌, ◌⊎◌, inl, inr, ⊎_elim, List, [], ◌++◌, length, subst, arith}
-use Rattle.std.specs.Prelude.{Option, Some, None}
+use Rattle.std.proofs.Common.{◌≡◌, ℕ, ◌+◌, ◌⊎◌, inl, inr, ⊎_elim, List, [], ◌∷◌, ◌++◌, length, true, false, refl, sym, ap, ◌∙◌, subst, arith}
+use Rattle.std.proofs.lemmas.Bool.{eqb-true, eqb-false, eq-eqb, ne_eqb, cases_Bool}
+use Rattle.std.proofs.lemmas.List.{append_assoc}
+use Rattle.std.specs.Prelude.{Option, Some, None, ◌==◌}
 use Rattle.std.specs.Option.{option_map}
-use Rattle.reg_keys.specs.declared.registration.Key.{Key}
-use Rattle.poller.specs.Faults.{PollerFaults}
+use Rattle.poller.specs.declared.poller.PollOut.TheVariants.{Polled}
 use Rattle.poller.specs.Polls.{Report}
 use Rattle.ready_queue.specs.Calls.{view_of}
 use Rattle.event_mgr.specs.Manager.{mgr_view}
@@ -11,14 +12,18 @@ use Rattle.dispatcher.specs.declared.pass.DispPass.{DispPass}
 use Rattle.dispatcher.specs.declared.turned.Halt.{Halt}
 use Rattle.dispatcher.specs.declared.turned.Halt.TheVariants as Halts
 use Rattle.dispatcher.specs.declared.turned.Count.{Count}
+use Rattle.poller.specs.Meanings.{PollerMeaning}
+use Rattle.dispatcher.specs.Meanings.{RunnerMeaning}
 use Rattle.dispatcher.specs.Told.{Gains}
 use Rattle.reg_keys.specs.declared.event.EventName.{EventName}
 use Rattle.dispatcher.specs.Books.{WasFullWithin, IsLeftOf, PutsAll, IsAccounted}
 use Rattle.dispatcher.specs.Firings.{job_keys_of}
-use Rattle.dispatcher.specs.Turns.{book_of, work_with, turned_of, HasRunKeys, HasHalted, HasReportedAll, HasLeftReports, TakesNone, HasTaken, IsEnded, HasTurned}
+use Rattle.dispatcher.specs.Turns.{book_of, work_with, turned_of, HasRunKeys, HasHalted, HasReportedAll, HasLeftReports, TakesNone, HasTaken, IsEnded, HasTurned, RefusedAt, HasPolled}
 use Rattle.dispatcher.proofs.Within.{within_later, within_sooner}
 use Rattle.dispatcher.proofs.Accounts.{balanced_then, left_none}
-use Rattle.dispatcher.proofs.Works.{worked_then, run_then, run_more_pairs}
+use Rattle.dispatcher.proofs.Works.{worked_then, run_then, more_pairs, run_more_pairs}
+use Rattle.dispatcher.proofs.Ends.{none_refused}
+use Rattle.dispatcher.proofs.Grown.{grown_then}
 use Rattle.dispatcher.proofs.Replies.{met_later}
 
 -- a list that is told, and a piece more
@@ -35,62 +40,68 @@ taken_around capacity max p q r s a t b g k = ⊎_elim
     (λ h. inr (within_sooner capacity (λ events. events ≡ []) (view_of p.queue) (view_of q.queue) (view_of s.queue) g.queue (within_later capacity (λ events. events ≡ []) (view_of q.queue) (view_of r.queue) (view_of s.queue) h k.queue)))
     t
 
-module _ {X P T : Type 0} (runs shuts : X → Option (List Key)) (keeps : X → X → Type 0) (poller_of : X → P) (polled : P → Option (List Report)) (faults : P → PollerFaults) where
-  -- the turn was ended before the poll
-  pub turned_halted : (capacity max : ℕ) (p : DispPass T) (x : X) (halt : Halt) (left : List Report) (q : DispPass T) (y : X) → left ≡ [] → Gains (polled (poller_of x)) (polled (poller_of y)) [] → HasHalted runs shuts keeps [] [] [] p x halt q y → HasTurned runs shuts keeps poller_of polled faults capacity max p x (turned_of halt) left q y
-  turned_halted capacity max p x (Halts.Stop code) left q y none gave k = record {
+-- more was reported before
+refused_later : (halt : Halt) (refused before reported : List Report) → RefusedAt halt refused reported → RefusedAt halt refused (before ++ reported)
+refused_later (Halts.Stop code) refused before reported k = k
+refused_later Halts.Spent refused before reported k = ⊎_elim (λ e. inl e) (λ t. inr (before ++ t.0, t.1, t.2, ap (λ (l : List Report). before ++ l) t.3 ∙ sym (append_assoc before t.0 (t.1 ∷ [])))) k
+
+-- a part took so many events where the number is nought exactly where the sums are equal
+pub idle_is : (a b n : ℕ) → a ≡ b + n → (n == 0) ≡ (a == b)
+idle_is a b n e = ⊎_elim
+    (λ (h : (n == 0) ≡ true). let z = eqb-true n 0 h in h ∙ sym (eq-eqb a b (omega arith)))
+    (λ (h : (n == 0) ≡ false). let z = eqb-false n 0 h in h ∙ sym (ne_eqb a b (λ (s : a ≡ b). z (omega arith)))) (cases_Bool (n == 0))
+
+module _ {X P T : Type 0} (meaning : RunnerMeaning X P) (told : PollerMeaning P) where
+  ended_halted : (capacity : ℕ) (p : DispPass T) (x : X) (halt : Halt) (left : List Report) (q : DispPass T) (y : X) → left ≡ [] → Gains (told.polled (meaning.poller_of x)) (told.polled (meaning.poller_of y)) [] → HasHalted meaning [] [] [] p x halt q y → IsEnded meaning told capacity halt p x left q y
+  ended_halted capacity p x halt left q y none gave k = record {
     balanced = k.balanced;
+    queue = k.queue;
     pairs = [];
+    polled = inl refl;
     gave = gave;
     back = k.back;
     refused = [];
     rest = [];
     work = k.work;
     left_is = none;
-    few = omega arith;
+    was_last = none_refused halt _;
   }
-  turned_halted capacity max p x Halts.Spent left q y none gave k = (
-    record {
-      balanced = k.balanced;
-      pairs = [];
-      gave = gave;
-      back = k.back;
-      refused = [];
-      rest = [];
-      work = k.work;
-      left_is = none;
-      few = omega arith;
-    },
-    k.cause,
-  )
 
-  module _ (on : (x y z : X) → keeps x y → keeps y z → keeps x z) where
+  -- the turn was ended before the poll
+  pub turned_halted : (capacity max : ℕ) (p : DispPass T) (x : X) (halt : Halt) (left : List Report) (q : DispPass T) (y : X) → left ≡ [] → Gains (told.polled (meaning.poller_of x)) (told.polled (meaning.poller_of y)) [] → HasHalted meaning [] [] [] p x halt q y → HasTurned meaning told capacity max p x (turned_of halt) left q y
+  turned_halted capacity max p x (Halts.Stop code) left q y none gave k = ended_halted capacity p x (Halts.Stop code) left q y none gave k
+  turned_halted capacity max p x Halts.Spent left q y none gave k = (ended_halted capacity p x Halts.Spent left q y none gave k, k.cause)
+
+  module _ (on : (x y z : X) → meaning.keeps x y → meaning.keeps y z → meaning.keeps x z) where
     ended_left : (capacity n : ℕ) (p : DispPass T) (x : X) (pairs : List Report) (q : DispPass T) (y : X) (halt : Halt) (left : List Report) (r : DispPass T) (z : X)
-        → IsAccounted capacity (book_of p) (book_of q) → HasRunKeys runs shuts keeps n (work_with [] [] p) x (work_with [] [] q) y → Gains (polled (poller_of x)) (polled (poller_of z)) pairs → HasLeftReports runs shuts keeps q y pairs halt r z left → IsEnded runs shuts keeps poller_of polled faults p x left r z
-    ended_left capacity n p x pairs q y halt left r z a w gave k = record {
+        → IsAccounted capacity (book_of p) (book_of q) → HasRunKeys meaning n (work_with [] [] p) x (work_with [] [] q) y → Gains (told.polled (meaning.poller_of x)) (told.polled (meaning.poller_of z)) pairs → HasPolled meaning told capacity (book_of p) Polled pairs → HasLeftReports meaning q y pairs halt r z left → IsEnded meaning told capacity halt p x left r z
+    unfolding worked_then run_more_pairs more_pairs
+    ended_left capacity n p x pairs q y halt left r z a w gave poll k = record {
       balanced = balanced_then (book_of p) (book_of q) (book_of r) a.balanced k.balanced;
+      queue = grown_then (view_of p.queue) (view_of q.queue) (view_of r.queue) a.queue k.queue;
       pairs = pairs;
+      polled = inr poll;
       gave = gave;
       back = k.back;
       refused = k.refused;
       rest = k.rest;
-      work = worked_then runs shuts keeps on (job_keys_of k.back) (work_with [] pairs p) x (work_with [] pairs q) y (work_with k.back k.rest r) z
-          (run_more_pairs runs shuts keeps n (mgr_view p.mgr) (mgr_view q.mgr) [] [] [] [] pairs x y w).0 k.work;
+      work = worked_then meaning on (job_keys_of k.back) (work_with [] pairs p) x (work_with [] pairs q) y (work_with k.back k.rest r) z
+          (run_more_pairs meaning n (mgr_view p.mgr) (mgr_view q.mgr) [] [] [] [] pairs x y w).0 k.work;
       left_is = k.left_is;
-      few = k.few;
+      was_last = refused_later halt k.refused w.0.reported k.work.reported k.was_last;
     }
 
     -- the turn was ended while pairs were reported
     pub turned_left : (capacity max n : ℕ) (p : DispPass T) (x : X) (pairs : List Report) (q : DispPass T) (y : X) (halt : Halt) (left : List Report) (r : DispPass T) (z : X)
-        → IsAccounted capacity (book_of p) (book_of q) → HasRunKeys runs shuts keeps n (work_with [] [] p) x (work_with [] [] q) y → Gains (polled (poller_of x)) (polled (poller_of z)) pairs → HasLeftReports runs shuts keeps q y pairs halt r z left → HasTurned runs shuts keeps poller_of polled faults capacity max p x (turned_of halt) left r z
-    turned_left capacity max n p x pairs q y (Halts.Stop code) left r z a w gave k = ended_left capacity n p x pairs q y (Halts.Stop code) left r z a w gave k
-    turned_left capacity max n p x pairs q y Halts.Spent left r z a w gave k = (ended_left capacity n p x pairs q y Halts.Spent left r z a w gave k, met_later (mgr_view p.mgr) (mgr_view q.mgr) (mgr_view r.mgr) w.0.grown k.cause)
+        → IsAccounted capacity (book_of p) (book_of q) → HasRunKeys meaning n (work_with [] [] p) x (work_with [] [] q) y → Gains (told.polled (meaning.poller_of x)) (told.polled (meaning.poller_of z)) pairs → HasPolled meaning told capacity (book_of p) Polled pairs → HasLeftReports meaning q y pairs halt r z left → HasTurned meaning told capacity max p x (turned_of halt) left r z
+    turned_left capacity max n p x pairs q y (Halts.Stop code) left r z a w gave poll k = ended_left capacity n p x pairs q y (Halts.Stop code) left r z a w gave poll k
+    turned_left capacity max n p x pairs q y Halts.Spent left r z a w gave poll k = (ended_left capacity n p x pairs q y Halts.Spent left r z a w gave poll k, met_later (mgr_view p.mgr) (mgr_view q.mgr) (mgr_view r.mgr) w.0.grown k.cause)
 
     -- so many keys were run before the poll, and so many as pairs were reported
     pub done_work : (n : ℕ) (p : DispPass T) (x : X) (pairs : List Report) (q : DispPass T) (y : X) (count : Count) (r : DispPass T) (z : X) (left : List Report)
-        → HasRunKeys runs shuts keeps n (work_with [] [] p) x (work_with [] [] q) y → HasReportedAll runs shuts keeps count q y pairs r z left → HasRunKeys runs shuts keeps (n + count.ran) (work_with [] pairs p) x (work_with [] [] r) z
-    done_work n p x pairs q y count r z left w k = run_then runs shuts keeps on n count.ran (work_with [] pairs p) x (work_with [] pairs q) y (work_with [] [] r) z
-        (run_more_pairs runs shuts keeps n (mgr_view p.mgr) (mgr_view q.mgr) [] [] [] [] pairs x y w) (k.work, k.ran)
+        → HasRunKeys meaning n (work_with [] [] p) x (work_with [] [] q) y → HasReportedAll meaning count q y pairs r z left → HasRunKeys meaning (n + count.ran) (work_with [] pairs p) x (work_with [] [] r) z
+    done_work n p x pairs q y count r z left w k = run_then meaning on n count.ran (work_with [] pairs p) x (work_with [] pairs q) y (work_with [] [] r) z
+        (run_more_pairs meaning n (mgr_view p.mgr) (mgr_view q.mgr) [] [] [] [] pairs x y w) (k.work, k.ran)
 
 -- The hand was emptied but where the queue was full, and since then nothing came into it but where it was full: so in the end each event that wasn't taken was put, but where the queue was full
 pub emptied_on : {T : Type 0} (capacity : ℕ) (p q r : DispPass T) → IsAccounted capacity (book_of p) (book_of q) → WasFullWithin capacity (view_of p.queue) (view_of q.queue) ⊎ (q.hand ≡ []) → IsAccounted capacity (book_of q) (book_of r) → WasFullWithin capacity (view_of p.queue) (view_of r.queue) ⊎ (r.hand ≡ [])

@@ -19,6 +19,7 @@ moved_grown capacity m v w k = record {
   classes = ap (λ (z : View Move). z.classes) k.rest;
   seen = begins_two v.seen k.between ((seat_of v, m) ∷ []) w.seen k.seen;
   own = begins_one (own_entries v) ((seat_of v, m) ∷ []) (own_entries w) k.own;
+  met = λ h. ap (λ (z : View Move). z.met_spent) k.rest ∙ h;
 }
 
 module _ (capacity : ℕ) (P : List EventName → Type 0) where

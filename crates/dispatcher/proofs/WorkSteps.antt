@@ -16,6 +16,7 @@ use Rattle.event_mgr.specs.Stripes.{stripe_of}
 use Rattle.event_mgr.specs.Manager.{MgrView, EnteredAt, SpentAt}
 use Rattle.dispatcher.specs.declared.runner.AfterRun.{AfterRun}
 use Rattle.dispatcher.specs.Entries.{Firing, firings, fired_by, reported_by}
+use Rattle.dispatcher.specs.Meanings.{RunnerMeaning}
 use Rattle.dispatcher.specs.Told.{Gains}
 use Rattle.dispatcher.specs.Runs.{HasRun}
 use Rattle.dispatcher.specs.Work.{HasWorked}
@@ -24,9 +25,9 @@ use Rattle.dispatcher.proofs.Grown.{all_grown_same, entered_grown, spent_grown, 
 use Rattle.dispatcher.proofs.Shown.{shows_same, shows_entered, shows_nothing, shows_spent, of_stripe_here, of_stripe_there, run_fires_none, run_reports_none}
 use Rattle.dispatcher.proofs.Works.{work, RunKeys}
 
-module _ {X : Type 0} (runs shuts : X → Option (List Key)) (keeps : X → X → Type 0) (same : (x : X) → keeps x x) where
+module _ {X P : Type 0} (meaning : RunnerMeaning X P) (same : (x : X) → meaning.keeps x x) where
   -- an event was dispatched, and what it ran is to be run
-  pub fire_step : (v w : MgrView) (x : X) (e : EventName) (rs : List FiredKey) (n : Option EventName) → EnteredAt (stripe_of e.opening.fd) (Entries.Dispatch e (Dispatches.Ran rs n)) v w → RunKeys runs shuts keeps 0 (work v [] []) x (work w (firings e.opening rs) []) x
+  pub fire_step : (v w : MgrView) (x : X) (e : EventName) (rs : List FiredKey) (n : Option EventName) → EnteredAt (stripe_of e.opening.fd) (Entries.Dispatch e (Dispatches.Ran rs n)) v w → RunKeys meaning 0 (work v [] []) x (work w (firings e.opening rs) []) x
   fire_step v w x e rs n a = let s = stripe_of e.opening.fd in let t : Entry = Entries.Dispatch e (Dispatches.Ran rs n) in (
     record {
       fired = firings e.opening rs;
@@ -37,15 +38,15 @@ module _ {X : Type 0} (runs shuts : X → Option (List Key)) (keeps : X → X �
       in_order = refl;
       shows_reported = shows_nothing reported_by s t v w a refl;
       each_once = refl;
-      gains_runs = gains_none (runs x);
-      gains_shuts = gains_none (shuts x);
+      gains_runs = gains_none (meaning.runs x);
+      gains_shuts = gains_none (meaning.shuts x);
       kept = same x;
     },
     refl,
   )
 
   -- a call was entered that ran nothing and reported nothing
-  pub idle_step : (v w : MgrView) (x : X) (ps : List Report) (s : ℕ) (t : Entry) → EnteredAt s t v w → fired_by t ≡ [] → reported_by t ≡ [] → RunKeys runs shuts keeps 0 (work v [] ps) x (work w [] ps) x
+  pub idle_step : (v w : MgrView) (x : X) (ps : List Report) (s : ℕ) (t : Entry) → EnteredAt s t v w → fired_by t ≡ [] → reported_by t ≡ [] → RunKeys meaning 0 (work v [] ps) x (work w [] ps) x
   idle_step v w x ps s t a f r = (
     record {
       fired = [];
@@ -56,15 +57,15 @@ module _ {X : Type 0} (runs shuts : X → Option (List Key)) (keeps : X → X �
       in_order = refl;
       shows_reported = shows_nothing reported_by s t v w a r;
       each_once = refl;
-      gains_runs = gains_none (runs x);
-      gains_shuts = gains_none (shuts x);
+      gains_runs = gains_none (meaning.runs x);
+      gains_shuts = gains_none (meaning.shuts x);
       kept = same x;
     },
     refl,
   )
 
   -- no call was entered
-  pub spent_step : (v w : MgrView) (x : X) (ps : List Report) (s : ℕ) → SpentAt s v w → RunKeys runs shuts keeps 0 (work v [] ps) x (work w [] ps) x
+  pub spent_step : (v w : MgrView) (x : X) (ps : List Report) (s : ℕ) → SpentAt s v w → RunKeys meaning 0 (work v [] ps) x (work w [] ps) x
   spent_step v w x ps s a = (
     record {
       fired = [];
@@ -75,15 +76,15 @@ module _ {X : Type 0} (runs shuts : X → Option (List Key)) (keeps : X → X �
       in_order = refl;
       shows_reported = shows_spent reported_by s v w a;
       each_once = refl;
-      gains_runs = gains_none (runs x);
-      gains_shuts = gains_none (shuts x);
+      gains_runs = gains_none (meaning.runs x);
+      gains_shuts = gains_none (meaning.shuts x);
       kept = same x;
     },
     refl,
   )
 
   -- a pair was reported
-  pub report_step : (v w : MgrView) (x : X) (o : Opening) (ds : Dirs) (r : ReportOutcome) → EnteredAt (stripe_of o.fd) (Entries.Report o ds r) v w → RunKeys runs shuts keeps 0 (work v [] ((o, ds) ∷ [])) x (work w [] []) x
+  pub report_step : (v w : MgrView) (x : X) (o : Opening) (ds : Dirs) (r : ReportOutcome) → EnteredAt (stripe_of o.fd) (Entries.Report o ds r) v w → RunKeys meaning 0 (work v [] ((o, ds) ∷ [])) x (work w [] []) x
   report_step v w x o ds r a = let s = stripe_of o.fd in let t : Entry = Entries.Report o ds r in (
     record {
       fired = [];
@@ -94,16 +95,16 @@ module _ {X : Type 0} (runs shuts : X → Option (List Key)) (keeps : X → X �
       in_order = refl;
       shows_reported = shows_entered reported_by s t v w a (of_stripe_here o (ds ∷ [])) (λ k ne. of_stripe_there o k (ds ∷ []) ne);
       each_once = refl;
-      gains_runs = gains_none (runs x);
-      gains_shuts = gains_none (shuts x);
+      gains_runs = gains_none (meaning.runs x);
+      gains_shuts = gains_none (meaning.shuts x);
       kept = same x;
     },
     refl,
   )
 
-module _ {X : Type 0} (runs shuts : X → Option (List Key)) (keeps : X → X → Type 0) where
+module _ {X P : Type 0} (meaning : RunnerMeaning X P) where
   -- the first of what fired was run
-  pub run_step : (v w : MgrView) (x y : X) (f : Firing) (fs : List Firing) (r : AfterRun) → HasRun v r w → Gains (runs x) (runs y) (f.1.key ∷ []) → shuts y ≡ shuts x → keeps x y → RunKeys runs shuts keeps 1 (work v (f ∷ fs) []) x (work w fs []) y
+  pub run_step : (v w : MgrView) (x y : X) (f : Firing) (fs : List Firing) (r : AfterRun) → HasRun v r w → Gains (meaning.runs x) (meaning.runs y) (f.1.key ∷ []) → meaning.shuts y ≡ meaning.shuts x → meaning.keeps x y → RunKeys meaning 1 (work v (f ∷ fs) []) x (work w fs []) y
   run_step v w x y f fs r k gains stay kept = (
     record {
       fired = [];
@@ -115,14 +116,14 @@ module _ {X : Type 0} (runs shuts : X → Option (List Key)) (keeps : X → X �
       shows_reported = run_reports_none v r w k;
       each_once = refl;
       gains_runs = gains;
-      gains_shuts = gains_as (shuts x) (shuts y) stay;
+      gains_shuts = gains_as (meaning.shuts x) (meaning.shuts y) stay;
       kept = kept;
     },
     refl,
   )
 
   -- the jobs of what fired were shut
-  pub shut_step : (v : MgrView) (x y : X) (back : List Firing) (shut : List Key) → runs y ≡ runs x → Gains (shuts x) (shuts y) shut → keeps x y → HasWorked runs shuts keeps shut (work v back []) x (work v back []) y
+  pub shut_step : (v : MgrView) (x y : X) (back : List Firing) (shut : List Key) → meaning.runs y ≡ meaning.runs x → Gains (meaning.shuts x) (meaning.shuts y) shut → meaning.keeps x y → HasWorked meaning shut (work v back []) x (work v back []) y
   shut_step v x y back shut stay gains kept = record {
     fired = [];
     ran = [];
@@ -132,13 +133,13 @@ module _ {X : Type 0} (runs shuts : X → Option (List Key)) (keeps : X → X �
     in_order = append-nil back;
     shows_reported = shows_same reported_by v v (λ t. refl);
     each_once = refl;
-    gains_runs = gains_as (runs x) (runs y) stay;
+    gains_runs = gains_as (meaning.runs x) (meaning.runs y) stay;
     gains_shuts = gains;
     kept = kept;
   }
 
   -- the lent poller polled
-  pub poll_step : (v : MgrView) (x y : X) (ps : List Report) → runs y ≡ runs x → shuts y ≡ shuts x → keeps x y → RunKeys runs shuts keeps 0 (work v [] ps) x (work v [] ps) y
+  pub poll_step : (v : MgrView) (x y : X) (ps : List Report) → meaning.runs y ≡ meaning.runs x → meaning.shuts y ≡ meaning.shuts x → meaning.keeps x y → RunKeys meaning 0 (work v [] ps) x (work v [] ps) y
   poll_step v x y ps stay stay' kept = (
     record {
       fired = [];
@@ -149,8 +150,8 @@ module _ {X : Type 0} (runs shuts : X → Option (List Key)) (keeps : X → X �
       in_order = refl;
       shows_reported = shows_same reported_by v v (λ t. refl);
       each_once = refl;
-      gains_runs = gains_as (runs x) (runs y) stay;
-      gains_shuts = gains_as (shuts x) (shuts y) stay';
+      gains_runs = gains_as (meaning.runs x) (meaning.runs y) stay;
+      gains_shuts = gains_as (meaning.shuts x) (meaning.shuts y) stay';
       kept = kept;
     },
     refl,

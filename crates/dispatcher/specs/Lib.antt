@@ -4,6 +4,7 @@ pub mod Told
 pub mod Books
 pub mod Firings
 pub mod Work
+pub mod Meanings
 pub mod Runs
 pub mod Dealing
 pub mod Turns

@@ -7,9 +7,10 @@ use Rattle.turn_cell.specs.declared.view.View.{View}
 use Rattle.turn_cell.specs.Weights.{weigh}
 use Rattle.turn_cell.specs.History.{Log}
 use Rattle.turn_cell.specs.View.{own_entries}
+use Rattle.stripe_table.specs.declared.calls.RegisterReply.{RegisterReply}
+use Rattle.stripe_table.specs.declared.calls.RegisterReply.TheVariants.{Waits}
 use Rattle.event_mgr.specs.Manager.{MgrView}
-use Rattle.poller.specs.Faults.{PollerFaults}
-use Rattle.poller.specs.Polls.{Report}
+use Rattle.poller.specs.Meanings.{PollerMeaning}
 use Rattle.dispatcher.specs.declared.runner.EventPair.{EventPair}
 use Rattle.dispatcher.specs.declared.runner.AfterRun.{AfterRun}
 use Rattle.dispatcher.specs.declared.runner.AfterRun.TheVariants.{Events, Stop}
@@ -37,17 +38,26 @@ pub record RunsAt (v w : View Entry) : Type 0 where
   pub own : own_entries w ≡ own_entries v ++ made
   pub calls : AreOfRun made
 
--- A run made no report and no dispatch, and gave exactly the events that its calls named
-pub record HasRun (v : MgrView) (result : AfterRun) (w : MgrView) : Type 0 where
+-- Calls were made that a run may make, one after another: no report and no dispatch is among them, and these are exactly the events that they named
+pub record HasMadeCalls (v : MgrView) (events : List EventName) (w : MgrView) : Type 0 where
   pub stripes : Each RunsAt v.stripes w.stripes
   pub numbers : HasGrown v.numbers w.numbers
-  pub named : (h : EventName → ℕ) → weigh_shown named_by h w ≡ weigh_shown named_by h v + weigh h (events_of (pair_of result))
+  pub named : (h : EventName → ℕ) → weigh_shown named_by h w ≡ weigh_shown named_by h v + weigh h events
+
+-- a run made such calls, and gave exactly the events that they named
+abbrev pub HasRun : MgrView → AfterRun → MgrView → Type 0
+HasRun v result w = HasMadeCalls v (events_of (pair_of result)) w
+
+-- the event that a registration named, if any
+abbrev pub named_by_register : {T : Type 0} → RegisterReply T → List EventName
+named_by_register (Waits key e) = option_to_list e
+named_by_register _ = []
 
 -- a run gave no events
 abbrev pub GivesNoEvents : AfterRun → Type 0
 GivesNoEvents result = events_of (pair_of result) ≡ []
 
 -- what a poller tells of its polls is as it was: the pairs that they gave, and their faults, with those of adding listeners
-pub record LeavesPolls {X : Type 0} (polled : X → Option (List Report)) (faults : X → PollerFaults) (x y : X) : Type 0 where
-  pub same_polled : polled y ≡ polled x
-  pub same_faults : (faults y).polls ≡ (faults x).polls
+pub record LeavesPolls {P : Type 0} (told : PollerMeaning P) (x y : P) : Type 0 where
+  pub same_polled : told.polled y ≡ told.polled x
+  pub same_faults : (told.faults y).polls ≡ (told.faults x).polls

@@ -1,5 +1,5 @@
 -- What is said of the 32 stripes together. There is one history for each stripe and none for all, so what has an order has it stripe by stripe, and everything else is said in sums.
-use Rattle.std.specs.Prelude.{◌≡◌, ℕ, ◌==◌, List, [], ◌∷◌, ◌++◌, filter}
+use Rattle.std.specs.Prelude.{◌≡◌, ℕ, ◌==◌, List, [], ◌∷◌, ◌++◌, filter, true}
 use mathlib.Core.List.{IsPrefix}
 use Rattle.reg_keys.specs.declared.opening.Opening.{Opening}
 use Rattle.reg_keys.specs.declared.event.EventName.{EventName}
@@ -18,12 +18,13 @@ Each R [] [] = Unit {0}
 Each R (v ∷ vs) (w ∷ ws) = R v w × Each R vs ws
 Each R _ _ = ⊥
 
--- the pass has seen what it had seen, and maybe more, and its own entries are those that it had, and maybe more
+-- the pass has seen what it had seen, and maybe more, its own entries are those that it had, and maybe more, and where it has met a spent cell it doesn't forget that
 pub record HasGrown {E : Type 0} (v w : View E) : Type 0 where
   pub name : w.name ≡ v.name
   pub classes : w.classes ≡ v.classes
   pub seen : IsPrefix v.seen w.seen
   pub own : IsPrefix (own_entries v) (own_entries w)
+  pub met : v.met_spent ≡ true → w.met_spent ≡ true
 
 -- each of the 33 passes has grown
 pub record AllGrown (v w : MgrView) : Type 0 where

@@ -1,10 +1,11 @@
 -- What was run and what was reported, in order.
-use Rattle.std.specs.Prelude.{◌≡◌, List, ◌++◌, Option}
+use Rattle.std.specs.Prelude.{◌≡◌, List, ◌++◌}
 use Rattle.reg_keys.specs.declared.registration.Key.{Key}
 use Rattle.event_mgr.specs.Manager.{MgrView}
 use Rattle.dispatcher.specs.Entries.{Firing, fired_by, reported_by}
 use Rattle.poller.specs.Polls.{Report}
 use Rattle.dispatcher.specs.Stripes.{AllGrown, Shows}
+use Rattle.dispatcher.specs.Meanings.{RunnerMeaning}
 use Rattle.dispatcher.specs.Told.{Gains}
 use Rattle.dispatcher.specs.Firings.{keys_of}
 
@@ -15,7 +16,7 @@ pub record Work : Type 0 where
   pub pairs : List Report
 
 -- From one point of a turn to another: what fired is what the entries that the pass gained show, and it was run in order, each once, or is still to be run; each pair was reported once, in order, by an entry that the pass gained, or is still to be reported. A runner that keeps a list of the keys that it ran has these keys in it, and one that keeps those that it shut has the keys `shut`
-pub record HasWorked {X : Type 0} (runs shuts : X → Option (List Key)) (keeps : X → X → Type 0) (shut : List Key) (a : Work) (x : X) (b : Work) (y : X) : Type 0 where
+pub record HasWorked {X P : Type 0} (meaning : RunnerMeaning X P) (shut : List Key) (a : Work) (x : X) (b : Work) (y : X) : Type 0 where
   pub fired : List Firing
   pub ran : List Firing
   pub reported : List Report
@@ -24,6 +25,6 @@ pub record HasWorked {X : Type 0} (runs shuts : X → Option (List Key)) (keeps 
   pub in_order : a.due ++ fired ≡ ran ++ b.due
   pub shows_reported : Shows reported_by a.mgr reported b.mgr
   pub each_once : a.pairs ≡ reported ++ b.pairs
-  pub gains_runs : Gains (runs x) (runs y) (keys_of ran)
-  pub gains_shuts : Gains (shuts x) (shuts y) shut
-  pub kept : keeps x y
+  pub gains_runs : Gains (meaning.runs x) (meaning.runs y) (keys_of ran)
+  pub gains_shuts : Gains (meaning.shuts x) (meaning.shuts y) shut
+  pub kept : meaning.keeps x y

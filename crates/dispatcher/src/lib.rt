@@ -6,6 +6,7 @@
 mod dealing;
 mod hand;
 mod pass;
+mod plain;
 mod runner;
 mod running;
 mod turned;
@@ -13,6 +14,7 @@ mod turning;
 
 pub use hand::{HAND, Hand};
 pub use pass::DispPass;
+pub use plain::{PlainRunner, Run};
 pub use runner::{AfterRun, EventPair, Runner};
 pub use turned::Turned;
 pub use turning::turn;

@@ -35,11 +35,7 @@ impl Poller for Planned {
 
     type Listener = MemListener;
 
-    ghost faults = { λ p. record { links = 0; polls = p.faults.n } };
-
-    ghost polled = { λ _. None };
-
-    ghost polls = { λ old new. old.faults.n ≤ new.faults.n };
+    ghost meaning = { record { faults = λ p. record { links = 0; polls = p.faults.n }; polled = λ _. None; polls = λ old idle result out new. old.faults.n ≤ new.faults.n } };
 
     fn add(&mut self, _opening: Opening, _link: &mut MemLink) -> AddOut {
         AddOut::Added
@@ -61,7 +57,7 @@ impl Poller for Planned {
         PollOut::Polled
     }
 
-    ghost polls_leave = { λ old new h. record { links = refl; later = h } };
+    ghost polls_alone = { λ old idle result out new h. record { links = refl; later = h } };
 }
 
 /// One key more in a list that is told, as long as there is room for it.
@@ -90,19 +86,15 @@ pub struct Keeper {
 impl<T: Load> Runner<T> for Keeper {
     type Poller = Planned;
 
-    ghost poller_of = { λ k. k.poller };
-
-    ghost with_poller = { λ k p. record k { poller = p } };
-
-    ghost fits = { λ k v jobs. Unit {0} };
-
-    ghost keeps = { λ k l. Unit {0} };
-
-    ghost stop = { λ k. k.stopped };
-
-    ghost runs = { λ k. option_map (λ v. v.items) k.runs };
-
-    ghost shuts = { λ k. option_map (λ v. v.items) k.shuts };
+    ghost meaning = { record {
+      poller_of = λ k. k.poller;
+      with_poller = λ k p. record k { poller = p };
+      fits = λ k v jobs. Unit {0};
+      keeps = λ k l. Unit {0};
+      stop = λ k. k.stopped;
+      runs = λ k. option_map (λ v. v.items) k.runs;
+      shuts = λ k. option_map (λ v. v.items) k.shuts;
+    } };
 
     fn run<R: Wait>(
         &mut self,
@@ -141,23 +133,16 @@ impl<T: Load> Runner<T> for Keeper {
         &mut self.poller
     }
 
-    ghost lent = { λ k p. refl };
-
-    ghost lent_stop = { λ k p. refl };
-
-    ghost lent_runs = { λ k p. refl };
-
-    ghost lent_shuts = { λ k p. refl };
-
-    ghost keeps_same = { λ k. tt };
-
-    ghost keeps_on = { λ k l m a b. tt };
-
-    ghost keeps_polled = { λ k p a. tt };
-
-    ghost fits_polled = { λ k p v jobs a f. tt };
-
-    ghost fits_reported = { λ k o ds v reply w jobs a f. tt };
-
-    ghost fits_dispatched = { λ k e v reply w jobs a f. tt };
+    ghost laws = { record {
+      lent = λ k p. refl;
+      lent_stop = λ k p. refl;
+      lent_runs = λ k p. refl;
+      lent_shuts = λ k p. refl;
+      keeps_same = λ k. tt;
+      keeps_on = λ k l m a b. tt;
+      keeps_polled = λ k idle result out p a. tt;
+      fits_polled = λ k idle result out p v jobs a f. tt;
+      fits_reported = λ k o ds v reply w jobs a b h f. tt;
+      fits_dispatched = λ k e v reply w jobs a b h f. tt;
+    } };
 }

@@ -1,15 +1,13 @@
 // What runs the jobs that fired.
-ghost use Rattle.std.specs.Prelude.{◌≡◌, ℕ, List, [], ◌∷◌, ◌++◌, Option, None, IfNone};
+ghost use Rattle.std.specs.Prelude.{◌≡◌, [], ◌∷◌, ◌++◌, None, IfNone};
 ghost use Rattle.std.specs.Borrow.{sem, Lends};
-ghost use Rattle.reg_keys.specs.declared.registration.Key.{Key};
-ghost use Rattle.reg_keys.specs.declared.registration.Dirs.{Dirs};
 ghost use Rattle.reg_keys.specs.declared.opening.Opening.{Opening};
-ghost use Rattle.reg_keys.specs.declared.event.EventName.{EventName};
-ghost use Rattle.stripe_table.specs.declared.calls.ReportReply.{ReportReply};
-ghost use Rattle.stripe_table.specs.declared.calls.DispatchReply.{DispatchReply};
-ghost use Rattle.event_mgr.specs.Manager.{MgrView, IsOfMgr, mgr_view, HasReported, HasDispatched};
+ghost use Rattle.reg_keys.specs.declared.registration.Dir.{Dir};
+ghost use Rattle.reg_keys.specs.declared.registration.Marks.{Marks};
+ghost use Rattle.event_mgr.specs.Manager.{MgrView, IsOfMgr, mgr_view};
 ghost use Rattle.dispatcher.specs.Told.{Gains};
-ghost use Rattle.dispatcher.specs.Firings.{Jobs, job_in, with_fired};
+ghost use Rattle.dispatcher.specs.Firings.{Jobs, job_in, job_at};
+ghost use Rattle.dispatcher.specs.Meanings.{RunnerMeaning, RunnerLaws};
 ghost use Rattle.dispatcher.specs.Runs.{HasRun, GivesNoEvents, code_of, LeavesPolls};
 
 use event_mgr::{EventManager, MgrPass};
@@ -38,25 +36,8 @@ pub enum AfterRun {
 pub trait Runner<T: Load> {
     type Poller: Poller;
 
-    // The poller that it lends, and the runner with another one in its place.
-    ghost poller_of: { Self → Self.Poller };
-
-    ghost with_poller: { Self → Self.Poller → Self };
-
-    // What the runner keeps true of itself, of what its dispatcher's pass knows of the manager, and of the jobs that fired and are still to be run, each with its key and its tag.
-    ghost fits: { Self → MgrView → Jobs → Type 0 };
-
-    // What stays of a runner, whatever a turn does with it.
-    ghost keeps: { Self → Self → Type 0 };
-
-    // The code where the last run stopped, else none.
-    ghost stop: { Self → Option ℕ };
-
-    // The keys that were run, in order, where they are told.
-    ghost runs: { Self → Option (List Key) };
-
-    // The keys that `shut` was given, in order, where they are told.
-    ghost shuts: { Self → Option (List Key) };
+    // What these contracts speak of.
+    ghost meaning: { RunnerMeaning Self Self.Poller };
 
     /// Runs a registration that fired. A flag has no job, and is told by the manager to whoever asks for it: nothing is to be done for it.
     ///
@@ -69,55 +50,33 @@ pub trait Runner<T: Load> {
         fired: &mut Fired<T>,
     ) -> AfterRun
         requires own { IsOfMgr mgr.now pass.old }
-        requires stop { stop self.old ≡ None }
-        requires fits { (rest : Jobs) × fits self.old (mgr_view pass.old) (job_in T.tag fired.old ++ rest) }
+        requires stop { meaning.stop self.old ≡ None }
+        requires fits { (o : Opening) × (rest : Jobs) × meaning.fits self.old (mgr_view pass.old) (job_in T.tag o fired.old ++ rest) }
         ensures own { IsOfMgr mgr.now pass.new }
-        ensures fits { (rest : Jobs) → fits self.old (mgr_view pass.old) (job_in T.tag fired.old ++ rest) → fits self.new (mgr_view pass.new) rest }
+        ensures fits { (o : Opening) (rest : Jobs) → meaning.fits self.old (mgr_view pass.old) (job_in T.tag o fired.old ++ rest) → meaning.fits self.new (mgr_view pass.new) rest }
         ensures made { HasRun (mgr_view pass.old) result (mgr_view pass.new) }
         ensures flag { IfNone fired.old.job (GivesNoEvents result) }
-        ensures stop { stop self.new ≡ code_of result }
-        ensures runs { Gains (runs self.old) (runs self.new) (fired.old.key ∷ []) }
-        ensures shuts { shuts self.new ≡ shuts self.old }
-        ensures keeps { keeps self.old self.new }
-        ensures poller { LeavesPolls Self.Poller.polled Self.Poller.faults (poller_of self.old) (poller_of self.new) };
+        ensures stop { meaning.stop self.new ≡ code_of result }
+        ensures runs { Gains (meaning.runs self.old) (meaning.runs self.new) (fired.old.key ∷ []) }
+        ensures shuts { meaning.shuts self.new ≡ meaning.shuts self.old }
+        ensures keeps { meaning.keeps self.old self.new }
+        ensures poller { LeavesPolls Self.Poller.meaning (meaning.poller_of self.old) (meaning.poller_of self.new) };
 
     /// Takes a job that fired and isn't run, since the turn ends.
     fn shut(&mut self, key: Key, job: T)
-        requires fits { (v : MgrView) × (rest : Jobs) × fits self.old v ((key, T.tag job) ∷ rest) }
-        ensures fits { (v : MgrView) (rest : Jobs) → fits self.old v ((key, T.tag job) ∷ rest) → fits self.new v rest }
-        ensures stop { stop self.new ≡ stop self.old }
-        ensures runs { runs self.new ≡ runs self.old }
-        ensures shuts { Gains (shuts self.old) (shuts self.new) (key ∷ []) }
-        ensures keeps { keeps self.old self.new }
-        ensures poller { LeavesPolls Self.Poller.polled Self.Poller.faults (poller_of self.old) (poller_of self.new) };
+        requires fits { (v : MgrView) × (rest : Jobs) × (o : Opening) × (d : Dir) × (m : Marks) × meaning.fits self.old v (job_at o key d m (T.tag job) ∷ rest) }
+        ensures fits { (v : MgrView) (rest : Jobs) (o : Opening) (d : Dir) (m : Marks) → meaning.fits self.old v (job_at o key d m (T.tag job) ∷ rest) → meaning.fits self.new v rest }
+        ensures stop { meaning.stop self.new ≡ meaning.stop self.old }
+        ensures runs { meaning.runs self.new ≡ meaning.runs self.old }
+        ensures shuts { Gains (meaning.shuts self.old) (meaning.shuts self.new) (key ∷ []) }
+        ensures keeps { meaning.keeps self.old self.new }
+        ensures poller { LeavesPolls Self.Poller.meaning (meaning.poller_of self.old) (meaning.poller_of self.new) };
 
     /// Lends the poller.
     fn poller(&mut self) -> &mut Self::Poller
-        ensures* writes_back { sem 𝓛 (Lends Self.row Self.Poller.row self.entry result (with_poller self.old)) }
-        ensures value { result.now ≡ poller_of self.old };
+        ensures* writes_back { sem 𝓛 (Lends Self.row Self.Poller.row self.entry result (meaning.with_poller self.old)) }
+        ensures value { result.now ≡ meaning.poller_of self.old };
 
-    // A poller that was lent is the runner's afterwards, and nothing else of the runner has changed.
-    ghost lent: { (r : Self) (p : Self.Poller) → poller_of (with_poller r p) ≡ p };
-
-    ghost lent_stop: { (r : Self) (p : Self.Poller) → stop (with_poller r p) ≡ stop r };
-
-    ghost lent_runs: { (r : Self) (p : Self.Poller) → runs (with_poller r p) ≡ runs r };
-
-    ghost lent_shuts: { (r : Self) (p : Self.Poller) → shuts (with_poller r p) ≡ shuts r };
-
-    // What stays, stays over several calls, and over a poll.
-    ghost keeps_same: { (r : Self) → keeps r r };
-
-    ghost keeps_on: { (r s t : Self) → keeps r s → keeps s t → keeps r t };
-
-    ghost keeps_polled: { (r : Self) (p : Self.Poller) → Self.Poller.polls (poller_of r) p → keeps r (with_poller r p) };
-
-    // `fits` stays where the lent poller changed by a poll alone.
-    ghost fits_polled: { (r : Self) (p : Self.Poller) (v : MgrView) (jobs : Jobs) → Self.Poller.polls (poller_of r) p → fits r v jobs → fits (with_poller r p) v jobs };
-
-    // `fits` stays where the dispatcher made a report.
-    ghost fits_reported: { (r : Self) (o : Opening) (ds : Dirs) (v : MgrView) (reply : ReportReply) (w : MgrView) (jobs : Jobs) → HasReported o ds v reply w → fits r v jobs → fits r w jobs };
-
-    // `fits` stays where the dispatcher dispatched an event, with the jobs that it ran behind the others.
-    ghost fits_dispatched: { (r : Self) (e : EventName) (v : MgrView) (reply : DispatchReply T) (w : MgrView) (jobs : Jobs) → HasDispatched T.tag e v reply w → fits r v jobs → fits r w (with_fired T.tag reply jobs) };
+    // What a runner owes beside its calls.
+    ghost laws: { RunnerLaws T.tag Self.Poller.meaning meaning };
 }

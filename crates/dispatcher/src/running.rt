@@ -9,7 +9,7 @@ ghost use Rattle.dispatcher.specs.Told.{Gains};
 ghost use Rattle.dispatcher.specs.Books.{IsAccounted};
 ghost use Rattle.dispatcher.specs.Firings.{jobs_of, job_keys_of};
 ghost use Rattle.dispatcher.specs.Runs.{LeavesPolls};
-ghost use Rattle.dispatcher.specs.Turns.{AreOf, book_of, book_with, work_with, code_of_halt, TakesNone, HasRunKeys, HasRunAll, HasHalted};
+ghost use Rattle.dispatcher.specs.Turns.{AreOf, IsReady, Leaves, GoesOn, book_of, book_with, work_with, code_of_halt, TakesNone, HasRunKeys, HasRunAll, HasHalted};
 
 use crate::dealing::deal_any;
 use crate::hand::HAND;
@@ -32,17 +32,14 @@ fn run_all<T: Load, X: Runner<T>, R: Wait>(
     list: FiredList<T>,
 ) -> Option<u8>
     requires own { AreOf mgr.now queue.now passes.old }
-    requires stop { X.stop runner.old ≡ None }
+    requires stop { X.meaning.stop runner.old ≡ None }
     requires room { length passes.old.hand < HAND }
-    requires fits { X.fits runner.old (mgr_view passes.old.mgr) (jobs_of (map (fired_key T.tag) list)) }
-    ensures own { AreOf mgr.now queue.now passes.new }
-    ensures stop { X.stop runner.new ≡ result }
+    requires fits { (o : Opening) × X.meaning.fits runner.old (mgr_view passes.old.mgr) (jobs_of (firings o (map (fired_key T.tag) list))) }
+    ensures leaves { Leaves X.meaning X.Poller.meaning mgr.now queue.now result runner.old passes.new runner.new }
     ensures room { length passes.new.hand < HAND }
-    ensures fits { X.fits runner.new (mgr_view passes.new.mgr) [] }
-    ensures poller { LeavesPolls X.Poller.polled X.Poller.faults (X.poller_of runner.old) (X.poller_of runner.new) }
     ensures events { IsAccounted (capacity_of queue.now) (book_of passes.old) (book_of passes.new) }
     ensures takes { TakesNone passes.old passes.new }
-    ensures ran { (o : Opening) → HasRunAll X.runs X.shuts X.keeps (firings o (map (fired_key T.tag) list)) passes.old runner.old result passes.new runner.new }
+    ensures ran { (o : Opening) → HasRunAll X.meaning (firings o (map (fired_key T.tag) list)) passes.old runner.old result passes.new runner.new }
 {
     let mut list = list;
     while let Some(mut fired) = list.pop_first() {
@@ -66,13 +63,13 @@ fn run_all<T: Load, X: Runner<T>, R: Wait>(
 
 // Gives the jobs that are left to `shut`, in order.
 fn shut_all<T: Load, X: Runner<T>>(passes: &DispPass<T>, runner: &mut X, list: FiredList<T>)
-    requires fits { X.fits runner.old (mgr_view passes.now.mgr) (jobs_of (map (fired_key T.tag) list)) }
-    ensures stop { X.stop runner.new ≡ X.stop runner.old }
-    ensures fits { X.fits runner.new (mgr_view passes.now.mgr) [] }
-    ensures runs { X.runs runner.new ≡ X.runs runner.old }
-    ensures shuts { (o : Opening) → Gains (X.shuts runner.old) (X.shuts runner.new) (job_keys_of (firings o (map (fired_key T.tag) list))) }
-    ensures keeps { X.keeps runner.old runner.new }
-    ensures poller { LeavesPolls X.Poller.polled X.Poller.faults (X.poller_of runner.old) (X.poller_of runner.new) }
+    requires fits { (o : Opening) × X.meaning.fits runner.old (mgr_view passes.now.mgr) (jobs_of (firings o (map (fired_key T.tag) list))) }
+    ensures stop { X.meaning.stop runner.new ≡ X.meaning.stop runner.old }
+    ensures fits { X.meaning.fits runner.new (mgr_view passes.now.mgr) [] }
+    ensures runs { X.meaning.runs runner.new ≡ X.meaning.runs runner.old }
+    ensures shuts { (o : Opening) → Gains (X.meaning.shuts runner.old) (X.meaning.shuts runner.new) (job_keys_of (firings o (map (fired_key T.tag) list))) }
+    ensures keeps { X.meaning.keeps runner.old runner.new }
+    ensures poller { LeavesPolls X.Poller.meaning (X.meaning.poller_of runner.old) (X.meaning.poller_of runner.new) }
 {
     let _passes = passes;
     let mut list = list;
@@ -98,20 +95,14 @@ pub(crate) fn dispatch<T: Load, X: Runner<T>, R: Wait>(
     runner: &mut X,
     event: Event,
 ) -> Result<u64, Halt>
-    requires own { AreOf mgr.now queue.now passes.old }
-    requires stop { X.stop runner.old ≡ None }
+    requires ready { IsReady X.meaning mgr.now queue.now passes.old runner.old }
     requires room { length passes.old.hand < HAND }
-    requires fits { X.fits runner.old (mgr_view passes.old.mgr) [] }
-    ensures own { AreOf mgr.now queue.now passes.new }
-    ensures stop { X.stop runner.new ≡ code_of_halt result }
+    ensures leaves { Leaves X.meaning X.Poller.meaning mgr.now queue.now (code_of_halt result) runner.old passes.new runner.new }
     ensures room { IfOk result (λ _. length passes.new.hand < HAND) }
-    ensures fits { X.fits runner.new (mgr_view passes.new.mgr) [] }
-    ensures poller { LeavesPolls X.Poller.polled X.Poller.faults (X.poller_of runner.old) (X.poller_of runner.new) }
-    ensures events { IfOk result (λ _. IsAccounted (capacity_of queue.now) (book_with [] (event ∷ []) passes.old) (book_of passes.new)) }
+    ensures went { IfOk result (λ n. GoesOn X.meaning (capacity_of queue.now) n (book_with [] (event ∷ []) passes.old) passes.old runner.old passes.new runner.new) }
     ensures takes { IfOk result (λ _. TakesNone passes.old passes.new) }
     ensures few { IfOk result (λ n. n ≤ 4) }
-    ensures ran { IfOk result (λ n. HasRunKeys X.runs X.shuts X.keeps n (work_with [] [] passes.old) runner.old (work_with [] [] passes.new) runner.new) }
-    ensures halted { IfErr result (λ halt. HasHalted X.runs X.shuts X.keeps [] (event ∷ []) [] passes.old runner.old halt passes.new runner.new) }
+    ensures halted { IfErr result (λ halt. HasHalted X.meaning [] (event ∷ []) [] passes.old runner.old halt passes.new runner.new) }
 {
     match mgr.dispatch(rt, &mut passes.mgr, event) {
         DispatchReply::Ran(list, next) => {

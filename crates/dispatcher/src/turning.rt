@@ -1,13 +1,13 @@
 // A turn of a dispatcher: the hand, the queue, the poll and the reports, in this order.
-ghost use Rattle.std.specs.Prelude.{◌≡◌, ◌+◌, ◌*◌, ◌<◌, ◌≤◌, ◌⊎◌, [], ◌∷◌, length, None, IfOk, IfErr};
+ghost use Rattle.std.specs.Prelude.{◌≡◌, ◌+◌, ◌*◌, ◌<◌, ◌≤◌, ◌⊎◌, ◌==◌, ◌&&◌, [], ◌∷◌, length, None, IfOk, IfErr};
 ghost use Rattle.ready_queue.specs.Calls.{view_of, capacity_of};
 ghost use Rattle.event_mgr.specs.Manager.{mgr_view};
-ghost use Rattle.dispatcher.specs.Books.{IsAccounted, WasFullWithin};
+ghost use Rattle.dispatcher.specs.Books.{IsAccounted, WasFullWithin, taken};
 ghost use Rattle.dispatcher.specs.Runs.{LeavesPolls};
-ghost use Rattle.dispatcher.specs.Turns.{AreOf, book_of, book_with, work_with, code_of_halt, TakesNone, HasTaken, HasRunKeys, HasHalted, HasReportedOne, HasReportedAll, HasLeftReports, HasTurned, stop_of};
+ghost use Rattle.dispatcher.specs.Turns.{AreOf, IsReady, Leaves, GoesOn, book_of, book_with, work_with, code_of_halt, TakesNone, HasTaken, HasRunKeys, HasHalted, HasReportedOne, HasReportedAll, HasLeftReports, HasTurned, stop_of};
 
 use crate::dealing::deal_any;
-use crate::hand::HAND;
+use crate::hand::{HAND, Hand};
 use crate::pass::DispPass;
 use crate::runner::Runner;
 use crate::running::dispatch;
@@ -34,14 +34,12 @@ pub fn turn<T: Load, X: Runner<T>, R: Wait>(
     reports: &mut Reports,
     max: u32,
 ) -> Turned
-    requires own { AreOf mgr.now queue.now passes.old }
-    requires stop { X.stop runner.old ≡ None }
-    requires fits { X.fits runner.old (mgr_view passes.old.mgr) [] }
+    requires ready { IsReady X.meaning mgr.now queue.now passes.old runner.old }
     requires empty { reports.old ≡ [] }
     ensures own { AreOf mgr.now queue.now passes.new }
-    ensures stop { X.stop runner.new ≡ stop_of result }
-    ensures fits { X.fits runner.new (mgr_view passes.new.mgr) [] }
-    ensures turned { HasTurned X.runs X.shuts X.keeps X.poller_of X.Poller.polled X.Poller.faults (capacity_of queue.now) max passes.old runner.old result reports.new passes.new runner.new }
+    ensures stop { X.meaning.stop runner.new ≡ stop_of result }
+    ensures fits { X.meaning.fits runner.new (mgr_view passes.new.mgr) [] }
+    ensures turned { HasTurned X.meaning X.Poller.meaning (capacity_of queue.now) max passes.old runner.old result reports.new passes.new runner.new }
 {
     let kept = match empty_hand::<T, X, R>(rt, mgr, queue, passes, runner) {
         Ok(ran) => ran,
@@ -51,7 +49,7 @@ pub fn turn<T: Load, X: Runner<T>, R: Wait>(
         Ok(count) => count,
         Err(halt) => return halt.turned(),
     };
-    let idle = taken.handled == 0 && passes.hand.len() == 0;
+    let idle = may_wait(taken.handled, &passes.hand);
     match runner.poller().poll(rt, idle, reports) {
         PollOut::Polled => {}
         PollOut::Failed => return Turned::PollFault,
@@ -65,6 +63,13 @@ pub fn turn<T: Load, X: Runner<T>, R: Wait>(
     }
 }
 
+// A poll may wait where no event was taken and none is in the hand.
+fn may_wait(taken: u64, hand: &Hand) -> bool
+    ensures { result ≡ ((taken == 0) && (length hand.now == 0)) }
+{
+    taken == 0 && hand.len() == 0
+}
+
 // Puts an event of the hand into the queue, or dispatches it by itself where the queue is full.
 fn put_or_dispatch<T: Load, X: Runner<T>, R: Wait>(
     rt: &R,
@@ -74,20 +79,14 @@ fn put_or_dispatch<T: Load, X: Runner<T>, R: Wait>(
     runner: &mut X,
     event: Event,
 ) -> Result<u64, Halt>
-    requires own { AreOf mgr.now queue.now passes.old }
-    requires stop { X.stop runner.old ≡ None }
+    requires ready { IsReady X.meaning mgr.now queue.now passes.old runner.old }
     requires room { length passes.old.hand < HAND }
-    requires fits { X.fits runner.old (mgr_view passes.old.mgr) [] }
-    ensures own { AreOf mgr.now queue.now passes.new }
-    ensures stop { X.stop runner.new ≡ code_of_halt result }
+    ensures leaves { Leaves X.meaning X.Poller.meaning mgr.now queue.now (code_of_halt result) runner.old passes.new runner.new }
     ensures room { IfOk result (λ _. length passes.new.hand < HAND) }
-    ensures fits { X.fits runner.new (mgr_view passes.new.mgr) [] }
-    ensures poller { LeavesPolls X.Poller.polled X.Poller.faults (X.poller_of runner.old) (X.poller_of runner.new) }
-    ensures events { IfOk result (λ _. IsAccounted (capacity_of queue.now) (book_with (event ∷ []) [] passes.old) (book_of passes.new)) }
+    ensures went { IfOk result (λ n. GoesOn X.meaning (capacity_of queue.now) n (book_with (event ∷ []) [] passes.old) passes.old runner.old passes.new runner.new) }
     ensures takes { IfOk result (λ _. TakesNone passes.old passes.new) }
     ensures few { IfOk result (λ n. n ≤ 4) }
-    ensures ran { IfOk result (λ n. HasRunKeys X.runs X.shuts X.keeps n (work_with [] [] passes.old) runner.old (work_with [] [] passes.new) runner.new) }
-    ensures halted { IfErr result (λ halt. HasHalted X.runs X.shuts X.keeps (event ∷ []) [] [] passes.old runner.old halt passes.new runner.new) }
+    ensures halted { IfErr result (λ halt. HasHalted X.meaning (event ∷ []) [] [] passes.old runner.old halt passes.new runner.new) }
 {
     match queue.put(rt, &mut passes.queue, event) {
         PutOut::Put => Ok(0),
@@ -103,20 +102,14 @@ fn empty_hand<T: Load, X: Runner<T>, R: Wait>(
     passes: &mut DispPass<T>,
     runner: &mut X,
 ) -> Result<u64, Halt>
-    requires own { AreOf mgr.now queue.now passes.old }
-    requires stop { X.stop runner.old ≡ None }
-    requires fits { X.fits runner.old (mgr_view passes.old.mgr) [] }
-    ensures own { AreOf mgr.now queue.now passes.new }
-    ensures stop { X.stop runner.new ≡ code_of_halt result }
+    requires ready { IsReady X.meaning mgr.now queue.now passes.old runner.old }
+    ensures leaves { Leaves X.meaning X.Poller.meaning mgr.now queue.now (code_of_halt result) runner.old passes.new runner.new }
     ensures room { IfOk result (λ _. 0 < length passes.old.hand → length passes.new.hand < HAND) }
-    ensures fits { X.fits runner.new (mgr_view passes.new.mgr) [] }
-    ensures poller { LeavesPolls X.Poller.polled X.Poller.faults (X.poller_of runner.old) (X.poller_of runner.new) }
-    ensures events { IfOk result (λ _. IsAccounted (capacity_of queue.now) (book_of passes.old) (book_of passes.new)) }
+    ensures went { IfOk result (λ n. GoesOn X.meaning (capacity_of queue.now) n (book_of passes.old) passes.old runner.old passes.new runner.new) }
     ensures emptied { IfOk result (λ _. WasFullWithin (capacity_of queue.now) (view_of passes.old.queue) (view_of passes.new.queue) ⊎ (passes.new.hand ≡ [])) }
     ensures takes { IfOk result (λ _. TakesNone passes.old passes.new) }
     ensures few { IfOk result (λ n. n ≤ 4 * HAND) }
-    ensures ran { IfOk result (λ n. HasRunKeys X.runs X.shuts X.keeps n (work_with [] [] passes.old) runner.old (work_with [] [] passes.new) runner.new) }
-    ensures halted { IfErr result (λ halt. HasHalted X.runs X.shuts X.keeps [] [] [] passes.old runner.old halt passes.new runner.new) }
+    ensures halted { IfErr result (λ halt. HasHalted X.meaning [] [] [] passes.old runner.old halt passes.new runner.new) }
 {
     let mut ran = 0u64;
     for _ in 0..passes.hand.len() {
@@ -139,19 +132,13 @@ fn relieve<T: Load, X: Runner<T>, R: Wait>(
     passes: &mut DispPass<T>,
     runner: &mut X,
 ) -> Result<u64, Halt>
-    requires own { AreOf mgr.now queue.now passes.old }
-    requires stop { X.stop runner.old ≡ None }
-    requires fits { X.fits runner.old (mgr_view passes.old.mgr) [] }
-    ensures own { AreOf mgr.now queue.now passes.new }
-    ensures stop { X.stop runner.new ≡ code_of_halt result }
+    requires ready { IsReady X.meaning mgr.now queue.now passes.old runner.old }
+    ensures leaves { Leaves X.meaning X.Poller.meaning mgr.now queue.now (code_of_halt result) runner.old passes.new runner.new }
     ensures room { IfOk result (λ _. length passes.new.hand < HAND) }
-    ensures fits { X.fits runner.new (mgr_view passes.new.mgr) [] }
-    ensures poller { LeavesPolls X.Poller.polled X.Poller.faults (X.poller_of runner.old) (X.poller_of runner.new) }
-    ensures events { IfOk result (λ _. IsAccounted (capacity_of queue.now) (book_of passes.old) (book_of passes.new)) }
+    ensures went { IfOk result (λ n. GoesOn X.meaning (capacity_of queue.now) n (book_of passes.old) passes.old runner.old passes.new runner.new) }
     ensures takes { IfOk result (λ _. TakesNone passes.old passes.new) }
     ensures few { IfOk result (λ n. n ≤ 4 * HAND) }
-    ensures ran { IfOk result (λ n. HasRunKeys X.runs X.shuts X.keeps n (work_with [] [] passes.old) runner.old (work_with [] [] passes.new) runner.new) }
-    ensures halted { IfErr result (λ halt. HasHalted X.runs X.shuts X.keeps [] [] [] passes.old runner.old halt passes.new runner.new) }
+    ensures halted { IfErr result (λ halt. HasHalted X.meaning [] [] [] passes.old runner.old halt passes.new runner.new) }
 {
     if passes.hand.len() < KEPT {
         return Ok(0);
@@ -168,18 +155,13 @@ fn take_events<T: Load, X: Runner<T>, R: Wait>(
     runner: &mut X,
     max: u32,
 ) -> Result<Count, Halt>
-    requires own { AreOf mgr.now queue.now passes.old }
-    requires stop { X.stop runner.old ≡ None }
-    requires fits { X.fits runner.old (mgr_view passes.old.mgr) [] }
-    ensures own { AreOf mgr.now queue.now passes.new }
-    ensures stop { X.stop runner.new ≡ code_of_halt result }
-    ensures fits { X.fits runner.new (mgr_view passes.new.mgr) [] }
-    ensures poller { LeavesPolls X.Poller.polled X.Poller.faults (X.poller_of runner.old) (X.poller_of runner.new) }
-    ensures events { IfOk result (λ _. IsAccounted (capacity_of queue.now) (book_of passes.old) (book_of passes.new)) }
+    requires ready { IsReady X.meaning mgr.now queue.now passes.old runner.old }
+    ensures leaves { Leaves X.meaning X.Poller.meaning mgr.now queue.now (code_of_halt result) runner.old passes.new runner.new }
+    ensures went { IfOk result (λ count. GoesOn X.meaning (capacity_of queue.now) count.ran (book_of passes.old) passes.old runner.old passes.new runner.new) }
     ensures takes { IfOk result (λ _. HasTaken (capacity_of queue.now) max passes.old passes.new) }
+    ensures counted { IfOk result (λ count. taken (λ _. 1) (book_of passes.new) ≡ taken (λ _. 1) (book_of passes.old) + count.handled) }
     ensures few { IfOk result (λ count. count.ran ≤ (4 * HAND + 4) * max) }
-    ensures ran { IfOk result (λ count. HasRunKeys X.runs X.shuts X.keeps count.ran (work_with [] [] passes.old) runner.old (work_with [] [] passes.new) runner.new) }
-    ensures halted { IfErr result (λ halt. HasHalted X.runs X.shuts X.keeps [] [] [] passes.old runner.old halt passes.new runner.new) }
+    ensures halted { IfErr result (λ halt. HasHalted X.meaning [] [] [] passes.old runner.old halt passes.new runner.new) }
 {
     let mut count = Count { handled: 0, ran: 0 };
     for _ in 0..max {
@@ -211,11 +193,11 @@ fn report_one<T: Load, X: Runner<T>, R: Wait>(
 ) -> bool
     requires own { AreOf mgr.now queue.now passes.old }
     requires room { length passes.old.hand < HAND }
-    requires fits { X.fits runner.now (mgr_view passes.old.mgr) [] }
+    requires fits { X.meaning.fits runner.now (mgr_view passes.old.mgr) [] }
     ensures own { AreOf mgr.now queue.now passes.new }
-    ensures fits { X.fits runner.now (mgr_view passes.new.mgr) [] }
+    ensures fits { X.meaning.fits runner.now (mgr_view passes.new.mgr) [] }
     ensures takes { TakesNone passes.old passes.new }
-    ensures reported { HasReportedOne X.runs X.shuts X.keeps (capacity_of queue.now) (opening, dirs) passes.old runner.now result passes.new }
+    ensures reported { HasReportedOne X.meaning (capacity_of queue.now) (opening, dirs) passes.old runner.now result passes.new }
 {
     let _runner = runner;
     match mgr.report(rt, &mut passes.mgr, opening, dirs) {
@@ -237,18 +219,13 @@ fn report_all<T: Load, X: Runner<T>, R: Wait>(
     runner: &mut X,
     reports: &mut Reports,
 ) -> Result<Count, Halt>
-    requires own { AreOf mgr.now queue.now passes.old }
-    requires stop { X.stop runner.old ≡ None }
-    requires fits { X.fits runner.old (mgr_view passes.old.mgr) [] }
-    ensures own { AreOf mgr.now queue.now passes.new }
-    ensures stop { X.stop runner.new ≡ code_of_halt result }
-    ensures fits { X.fits runner.new (mgr_view passes.new.mgr) [] }
-    ensures poller { LeavesPolls X.Poller.polled X.Poller.faults (X.poller_of runner.old) (X.poller_of runner.new) }
+    requires ready { IsReady X.meaning mgr.now queue.now passes.old runner.old }
+    ensures leaves { Leaves X.meaning X.Poller.meaning mgr.now queue.now (code_of_halt result) runner.old passes.new runner.new }
     ensures events { IfOk result (λ _. IsAccounted (capacity_of queue.now) (book_of passes.old) (book_of passes.new)) }
     ensures takes { IfOk result (λ _. TakesNone passes.old passes.new) }
     ensures few { IfOk result (λ count. count.ran ≤ 4 * HAND * REPORTS) }
-    ensures ran { IfOk result (λ count. HasReportedAll X.runs X.shuts X.keeps count passes.old runner.old reports.old passes.new runner.new reports.new) }
-    ensures halted { IfErr result (λ halt. HasLeftReports X.runs X.shuts X.keeps passes.old runner.old reports.old halt passes.new runner.new reports.new) }
+    ensures ran { IfOk result (λ count. HasReportedAll X.meaning count passes.old runner.old reports.old passes.new runner.new reports.new) }
+    ensures halted { IfErr result (λ halt. HasLeftReports X.meaning passes.old runner.old reports.old halt passes.new runner.new reports.new) }
 {
     let _most = reports.len();
     let mut count = Count { handled: 0, ran: 0 };

@@ -31,24 +31,23 @@ impl Runner<Job> for Recorder {
 
     ghost use Rattle.std.specs.Prelude.{List, ◌∷◌};
     ghost use Rattle.event_mgr.specs.Manager.{MgrView};
+    ghost use Rattle.reg_keys.specs.declared.opening.Opening.{Opening};
+    ghost use Rattle.reg_keys.specs.declared.registration.Dir.{Dir};
+    ghost use Rattle.reg_keys.specs.declared.registration.Marks.{Marks};
     ghost use Rattle.dispatcher.specs.Told.{Gains};
     ghost use Rattle.dispatcher.specs.Firings.{Jobs};
     ghost use Rattle.dispatcher.specs.Runs.{LeavesPolls};
     ghost use Rattle.event_tests.specs.Recording.{never, untold};
 
-    ghost poller_of = { λ r. r.poller };
-
-    ghost with_poller = { λ r p. record r { poller = p } };
-
-    ghost fits = { λ _ _ _. Unit {0} };
-
-    ghost keeps = { λ _ _. Unit {0} };
-
-    ghost stop = { λ _. never };
-
-    ghost runs = { λ _. untold };
-
-    ghost shuts = { λ _. untold };
+    ghost meaning = { record {
+      poller_of = λ r. r.poller;
+      with_poller = λ r p. record r { poller = p };
+      fits = λ _ _ _. Unit {0};
+      keeps = λ _ _. Unit {0};
+      stop = λ _. never;
+      runs = λ _. untold;
+      shuts = λ _. untold;
+    } };
 
     fn run<R: Wait>(
         &mut self,
@@ -59,14 +58,14 @@ impl Runner<Job> for Recorder {
     ) -> AfterRun
         requires { IsOfMgr mgr.now pass.old }
         ensures own { IsOfMgr mgr.now pass.new }
-        ensures fits { (rest : Jobs) → Unit {0} → Unit {0} }
+        ensures fits { (o : Opening) (rest : Jobs) → Unit {0} → Unit {0} }
         ensures made { HasRun (mgr_view pass.old) result (mgr_view pass.new) }
         ensures flag { IfNone fired.old.job (GivesNoEvents result) }
         ensures stop { never ≡ code_of result }
         ensures runs { Gains untold untold (fired.old.key ∷ []) }
         ensures shuts { untold ≡ untold }
         ensures keeps { Unit {0} }
-        ensures poller { LeavesPolls ⟦<MemPoller as Poller>⟧.polled ⟦<MemPoller as Poller>⟧.faults self.old.poller self.new.poller }
+        ensures poller { LeavesPolls ⟦<MemPoller as Poller>⟧.meaning self.old.poller self.new.poller }
     {
         let _job = fired.job.take();
         let _ = self.ran.push(fired.key.number);
@@ -77,12 +76,12 @@ impl Runner<Job> for Recorder {
     }
 
     fn shut(&mut self, key: Key, _job: Job)
-        ensures fits { (v : MgrView) (rest : Jobs) → Unit {0} → Unit {0} }
+        ensures fits { (v : MgrView) (rest : Jobs) (o : Opening) (d : Dir) (m : Marks) → Unit {0} → Unit {0} }
         ensures stop { never ≡ never }
         ensures runs { untold ≡ untold }
         ensures shuts { Gains untold untold (key ∷ []) }
         ensures keeps { Unit {0} }
-        ensures poller { LeavesPolls ⟦<MemPoller as Poller>⟧.polled ⟦<MemPoller as Poller>⟧.faults self.old.poller self.new.poller }
+        ensures poller { LeavesPolls ⟦<MemPoller as Poller>⟧.meaning self.old.poller self.new.poller }
     {
         let _shut = key;
     }
@@ -91,23 +90,16 @@ impl Runner<Job> for Recorder {
         &mut self.poller
     }
 
-    ghost lent = { λ r p. refl };
-
-    ghost lent_stop = { λ r p. refl };
-
-    ghost lent_runs = { λ r p. refl };
-
-    ghost lent_shuts = { λ r p. refl };
-
-    ghost keeps_same = { λ r. tt };
-
-    ghost keeps_on = { λ r s t _ _. tt };
-
-    ghost keeps_polled = { λ r p _. tt };
-
-    ghost fits_polled = { λ r p v jobs _ _. tt };
-
-    ghost fits_reported = { λ r o ds v reply w jobs _ _. tt };
-
-    ghost fits_dispatched = { λ r e v reply w jobs _ _. tt };
+    ghost laws = { record {
+      lent = λ r p. refl;
+      lent_stop = λ r p. refl;
+      lent_runs = λ r p. refl;
+      lent_shuts = λ r p. refl;
+      keeps_same = λ r. tt;
+      keeps_on = λ r s t a b. tt;
+      keeps_polled = λ r idle result out p h. tt;
+      fits_polled = λ r idle result out p v jobs h f. tt;
+      fits_reported = λ r o ds v reply w jobs a b h f. tt;
+      fits_dispatched = λ r e v reply w jobs a b h f. tt;
+    } };
 }

@@ -1,7 +1,6 @@
 pub mod Courses
 pub mod Deliveries
 pub mod Faults
-pub mod Leaves
 pub mod NetLinks
 pub mod NetListeners
 pub mod NetSteps
@@ -11,3 +10,4 @@ pub mod Ports
 pub mod Rounds
 pub mod Scripts
 pub mod Seats
+pub mod Meanings

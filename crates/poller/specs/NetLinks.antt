@@ -1,8 +1,8 @@
 -- A link of a memory net: what its script has, what was delivered of it, and what it gave and took.
 use Rattle.std.specs.Prelude.{◌≡◌, ℕ, ◌+◌, ◌-◌, ◌≤◌, ◌==◌, Bool, false, List, [], ◌∷◌, Option, Some, if◌then◌else◌, length, drop, take, min, slice_index}
 use Rattle.atomic_table.specs.Seated.{TableId}
-use Rattle.outside.specs.Causes.{bytes_got}
-use Rattle.outside.specs.Counts.{Counts}
+use Rattle.outside.specs.Causes.{LinkTold, bytes_got}
+use Rattle.outside.specs.Counts.{Counts, nothing_counted}
 use Rattle.outside.specs.Room.{RoomState}
 use Rattle.outside.specs.declared.link.ReadOut.{ReadOut}
 use Rattle.outside.specs.declared.link.ReadOut.TheVariants as Reads
@@ -53,6 +53,27 @@ net_link_of link = record {
 abbrev pub waits_of : MemLink → Counts
 waits_of link = record { reads = link.read_waits.n; writes = link.write_waits.n }
 
+-- the whole input
+abbrev pub input_of : NetLink → List ℕ
+input_of l = pieces_in l.steps
+
+-- the bytes that were given
+abbrev pub given_of : NetLink → List ℕ
+given_of l = take l.given (input_of l)
+
+-- it tells its bytes and its plan, and no fault
+abbrev pub told_of : MemLink → LinkTold
+told_of link =
+    let l = net_link_of link in
+    record {
+      taken = Some (given_of l);
+      sent = Some l.room.stored;
+      ended = Some l.ended;
+      plan = Some (l.number, input_of l);
+      faults = nothing_counted;
+      waits = waits_of link;
+    }
+
 -- the link of the script with a number, of which nothing was asked yet: its word is one more than its number, and
 -- it carries the way of its word into a poller, by which the word is raised once for each step
 abbrev pub fresh_net_link : TableId → List Script → ℕ → NetLink
@@ -66,14 +87,6 @@ fresh_net_link table scripts n = record {
   room = record { stored = []; size = room_at scripts n };
   feed = Some (record { table = table; word = n + 1; delivered = 0; limit = slice_index (limits_of scripts) (n + 1); left = 0; looks = 0 });
 }
-
--- the whole input
-abbrev pub input_of : NetLink → List ℕ
-input_of l = pieces_in l.steps
-
--- the bytes that were given
-abbrev pub given_of : NetLink → List ℕ
-given_of l = take l.given (input_of l)
 
 -- the bytes that were delivered and not given
 abbrev pub there_of : NetLink → List ℕ

@@ -119,19 +119,9 @@ impl MemLink {
 impl Link for MemLink {
     ghost use Rattle.std.proofs.Common.{arith};
     ghost use Rattle.poller.specs.PlanLaws.{follows};
-    ghost use Rattle.poller.specs.NetLinks.{ReadsNet, WritesNet, given_of, input_of, net_link_of, waits_of};
+    ghost use Rattle.poller.specs.NetLinks.{ReadsNet, WritesNet, given_of, input_of, net_link_of, told_of, waits_of};
 
-    ghost taken = { λ link. Some (given_of (net_link_of link)) };
-
-    ghost sent = { λ link. Some (net_link_of link).room.stored };
-
-    ghost ended = { λ link. Some (net_link_of link).ended };
-
-    ghost plan = { λ link. Some ((net_link_of link).number, input_of (net_link_of link)) };
-
-    ghost faults = { λ _. nothing_counted };
-
-    ghost waits = { λ link. waits_of link };
+    ghost told = { told_of };
 
     ghost sure = { true };
 

@@ -3,7 +3,7 @@ ghost use Rattle.std.specs.Prelude.{◌≡◌, ◌<◌, ◌≤◌, ◌+◌, ◌-
 ghost use Rattle.outside.specs.Counts.{more_by_one, nothing_counted};
 ghost use Rattle.outside.specs.ListenCauses.{IfAccepted, IsPlannedAt, IsUntouched, accept_waits_after, accepted_after};
 ghost use Rattle.poller.specs.Deliveries.{limits_of};
-ghost use Rattle.poller.specs.NetLinks.{fresh_net_link, net_link_of, waits_of};
+ghost use Rattle.poller.specs.NetLinks.{fresh_net_link, net_link_of, told_of, waits_of};
 ghost use Rattle.poller.specs.NetListeners.{AcceptsNet, IsListener, NetListener};
 ghost use Rattle.poller.specs.Ports.{fresh_port};
 ghost use Rattle.poller.specs.Scripts.{AreScripts, plans_from, room_at, steps_at};
@@ -112,19 +112,17 @@ impl Listener for MemListener {
 
     type Link = MemLink;
 
-    ghost accepted = { λ listener. listener.accepted.n };
-
-    ghost waits = { λ listener. listener.waits.n };
-
-    ghost faults = { λ _. 0 };
-
-    ghost failed_row = { λ _. 0 };
-
-    ghost plans = { λ listener. Some (plans_from 0 listener.scripts) };
+    ghost told = { λ listener. record {
+      accepted = listener.accepted.n;
+      waits = listener.waits.n;
+      faults = 0;
+      failed_row = 0;
+      plans = Some (plans_from 0 listener.scripts);
+    } };
 
     fn accept(&mut self) -> AcceptOut<MemLink>
-        ensures untouched { IfAccepted result (λ link. IsUntouched (⟦<MemLink as Link>⟧.taken link) (⟦<MemLink as Link>⟧.sent link) (⟦<MemLink as Link>⟧.ended link) (⟦<MemLink as Link>⟧.faults link) (⟦<MemLink as Link>⟧.waits link)) }
-        ensures planned { IfAccepted result (λ link. IsPlannedAt (Some (plans_from 0 self.old.scripts)) self.old.accepted.n (⟦<MemLink as Link>⟧.plan link)) }
+        ensures untouched { IfAccepted result (λ link. IsUntouched (told_of link)) }
+        ensures planned { IfAccepted result (λ link. IsPlannedAt (Some (plans_from 0 self.old.scripts)) self.old.accepted.n (told_of link).plan) }
         ensures accepts { AcceptsNet self.old self.new result }
         ensures counted { self.new.accepted.n ≡ accepted_after result self.old.accepted.n }
         ensures waited { self.new.waits.n ≡ accept_waits_after result self.old.waits.n }

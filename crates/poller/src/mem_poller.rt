@@ -97,13 +97,9 @@ impl Poller for MemPoller {
     ghost use Rattle.std.proofs.Common.{arith};
     ghost use Rattle.poller.specs.declared.poller.PollOut.TheVariants.{Polled};
     ghost use Rattle.poller.specs.NetLinks.{IsSameLink};
-    ghost use Rattle.poller.specs.Rounds.{Adding, IsPolled, IsRound, no_faults};
+    ghost use Rattle.poller.specs.Rounds.{Adding, IsRound, no_faults};
 
-    ghost faults = { λ _. no_faults };
-
-    ghost polled = { λ _. None };
-
-    ghost polls = { λ old new. IsPolled old.entries.items new.entries.items };
+    ghost meaning = { record { faults = λ _. no_faults; polled = λ _. None; polls = λ old idle result out new. (result ≡ Polled) × IsRound old.entries.items new.entries.items out } };
 
     fn add(&mut self, opening: Opening, link: &mut MemLink) -> AddOut
         requires { HasToken opening }
@@ -148,5 +144,5 @@ impl Poller for MemPoller {
         PollOut::Polled
     }
 
-    ghost polls_leave = { λ old new polls. record { links = refl; later = Prim.omega arith } };
+    ghost polls_alone = { λ old idle result out new polls. record { links = refl; later = Prim.omega arith } };
 }

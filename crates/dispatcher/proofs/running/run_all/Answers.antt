@@ -22,7 +22,7 @@ loop-fired-init g c = record {
   poller = record { same_polled = refl; same_faults = refl };
   events = accounted_same (capacity_of c.args.queue.now) (book_of c.args.passes.now);
   takes = refl;
-  ran = λ o. (0, omega arith, run_same g.X.Runner.runs g.X.Runner.shuts g.X.Runner.keeps g.met.X.Runner.keeps_same (work_with (firings o (map (fired_key g.T.Load.tag) c.args.list)) [] c.args.passes.now) c.args.runner.now);
+  ran = λ o. (0, omega arith, run_same g.X.Runner.meaning g.met.X.Runner.laws.keeps_same (work_with (firings o (map (fired_key g.T.Load.tag) c.args.list)) [] c.args.passes.now) c.args.runner.now);
 }
 
 pub loop-fired-preserved-in-Events : goal.loop-fired-preserved-in-Events
@@ -31,18 +31,18 @@ loop-fired-preserved-in-Events g c = let i = c.loop-fired.invariant in let p = c
       own = (c.run.ensures.own, c.deal_any-in-Events.ensures.own);
       stop = c.in-Events.ensures.stop;
       room = c.deal_any-in-Events.ensures.room (c.deal_any.ensures.room i.room);
-      fits = c.run.ensures.fits (jobs_of (map fk rest)) (subst (λ l. g.X.Runner.fits c.loop-fired.runner (mgr_view p.mgr) (jobs_of (map fk l))) popped i.fits);
+      fits = (i.fits.0, c.run.ensures.fits i.fits.0 (jobs_of (firings i.fits.0 (map fk rest))) (subst (λ l. g.X.Runner.meaning.fits c.loop-fired.runner (mgr_view p.mgr) (jobs_of (firings i.fits.0 (map fk l)))) popped i.fits.1));
       poller = record { same_polled = c.run.ensures.poller.same_polled ∙ i.poller.same_polled; same_faults = c.run.ensures.poller.same_faults ∙ i.poller.same_faults };
       events = accounted_then cap (book_of c.args.passes.now) (book_of p) (book m q c.deal_any-in-Events.new.hand [] []) i.events
           (run_deal_step cap (mgr_view p.mgr) m (view_of p.queue) (view_of c.deal_any.new.pass) q p.hand c.deal_any.new.hand c.deal_any-in-Events.new.hand (Events c.in-Events.pair) c.in-Events.ensures.made c.deal_any.ensures.dealt c.deal_any-in-Events.ensures.dealt);
       takes = deal_any_takes_none (λ _. 1) cap c.in-Events.pair.second (view_of c.deal_any.new.pass) c.deal_any.new.hand q c.deal_any-in-Events.new.hand c.deal_any-in-Events.ensures.dealt
           ∙ (deal_any_takes_none (λ _. 1) cap c.in-Events.pair.first (view_of p.queue) p.hand (view_of c.deal_any.new.pass) c.deal_any.new.hand c.deal_any.ensures.dealt ∙ i.takes);
       ran = λ o. let r = i.ran o in let k = ap length popped in let n = r.1 in let a = work_with (firings o (map fk c.args.list)) [] c.args.passes.now in
-          let t = subst (λ l. HasRunKeys g.X.Runner.runs g.X.Runner.shuts g.X.Runner.keeps r.0 a c.args.runner.now (work (mgr_view p.mgr) (firings o (map fk l)) []) c.loop-fired.runner) popped r.2 in (
+          let t = subst (λ l. HasRunKeys g.X.Runner.meaning r.0 a c.args.runner.now (work (mgr_view p.mgr) (firings o (map fk l)) []) c.loop-fired.runner) popped r.2 in (
             r.0 + 1,
             omega arith,
-            run_then g.X.Runner.runs g.X.Runner.shuts g.X.Runner.keeps g.met.X.Runner.keeps_on r.0 1 a c.args.runner.now (work (mgr_view p.mgr) ((o, fk c.in-Some.fired) ∷ firings o (map fk rest)) []) c.loop-fired.runner (work m (firings o (map fk rest)) []) c.run.new.self t
-                (run_step g.X.Runner.runs g.X.Runner.shuts g.X.Runner.keeps (mgr_view p.mgr) m c.loop-fired.runner c.run.new.self (o, fk c.in-Some.fired) (firings o (map fk rest)) (Events c.in-Events.pair) c.in-Events.ensures.made c.run.ensures.runs c.run.ensures.shuts c.run.ensures.keeps),
+            run_then g.X.Runner.meaning g.met.X.Runner.laws.keeps_on r.0 1 a c.args.runner.now (work (mgr_view p.mgr) ((o, fk c.in-Some.fired) ∷ firings o (map fk rest)) []) c.loop-fired.runner (work m (firings o (map fk rest)) []) c.run.new.self t
+                (run_step g.X.Runner.meaning (mgr_view p.mgr) m c.loop-fired.runner c.run.new.self (o, fk c.in-Some.fired) (firings o (map fk rest)) (Events c.in-Events.pair) c.in-Events.ensures.made c.run.ensures.runs c.run.ensures.shuts c.run.ensures.keeps),
           );
     }
 
@@ -52,18 +52,18 @@ loop-fired-preserved g c = let i = c.loop-fired.invariant in let p = c.loop-fire
       own = (c.run.ensures.own, c.deal_any-in-Events.ensures.own);
       stop = c.in-Events.ensures.stop;
       room = c.deal_any-in-Events.ensures.room (c.deal_any.ensures.room i.room);
-      fits = c.run.ensures.fits (jobs_of (map fk rest)) (subst (λ l. g.X.Runner.fits c.loop-fired.runner (mgr_view p.mgr) (jobs_of (map fk l))) popped i.fits);
+      fits = (i.fits.0, c.run.ensures.fits i.fits.0 (jobs_of (firings i.fits.0 (map fk rest))) (subst (λ l. g.X.Runner.meaning.fits c.loop-fired.runner (mgr_view p.mgr) (jobs_of (firings i.fits.0 (map fk l)))) popped i.fits.1));
       poller = record { same_polled = c.run.ensures.poller.same_polled ∙ i.poller.same_polled; same_faults = c.run.ensures.poller.same_faults ∙ i.poller.same_faults };
       events = accounted_then cap (book_of c.args.passes.now) (book_of p) (book m q c.deal_any-in-Events.new.hand [] []) i.events
           (run_deal_step cap (mgr_view p.mgr) m (view_of p.queue) (view_of c.deal_any.new.pass) q p.hand c.deal_any.new.hand c.deal_any-in-Events.new.hand (Events c.in-Events.pair) c.in-Events.ensures.made c.deal_any.ensures.dealt c.deal_any-in-Events.ensures.dealt);
       takes = deal_any_takes_none (λ _. 1) cap c.in-Events.pair.second (view_of c.deal_any.new.pass) c.deal_any.new.hand q c.deal_any-in-Events.new.hand c.deal_any-in-Events.ensures.dealt
           ∙ (deal_any_takes_none (λ _. 1) cap c.in-Events.pair.first (view_of p.queue) p.hand (view_of c.deal_any.new.pass) c.deal_any.new.hand c.deal_any.ensures.dealt ∙ i.takes);
       ran = λ o. let r = i.ran o in let k = ap length popped in let n = r.1 in let a = work_with (firings o (map fk c.args.list)) [] c.args.passes.now in
-          let t = subst (λ l. HasRunKeys g.X.Runner.runs g.X.Runner.shuts g.X.Runner.keeps r.0 a c.args.runner.now (work (mgr_view p.mgr) (firings o (map fk l)) []) c.loop-fired.runner) popped r.2 in (
+          let t = subst (λ l. HasRunKeys g.X.Runner.meaning r.0 a c.args.runner.now (work (mgr_view p.mgr) (firings o (map fk l)) []) c.loop-fired.runner) popped r.2 in (
             r.0 + 1,
             omega arith,
-            run_then g.X.Runner.runs g.X.Runner.shuts g.X.Runner.keeps g.met.X.Runner.keeps_on r.0 1 a c.args.runner.now (work (mgr_view p.mgr) ((o, fk c.in-Some.fired) ∷ firings o (map fk rest)) []) c.loop-fired.runner (work m (firings o (map fk rest)) []) c.run.new.self t
-                (run_step g.X.Runner.runs g.X.Runner.shuts g.X.Runner.keeps (mgr_view p.mgr) m c.loop-fired.runner c.run.new.self (o, fk c.in-Some.fired) (firings o (map fk rest)) (Events c.in-Events.pair) c.in-Events.ensures.made c.run.ensures.runs c.run.ensures.shuts c.run.ensures.keeps),
+            run_then g.X.Runner.meaning g.met.X.Runner.laws.keeps_on r.0 1 a c.args.runner.now (work (mgr_view p.mgr) ((o, fk c.in-Some.fired) ∷ firings o (map fk rest)) []) c.loop-fired.runner (work m (firings o (map fk rest)) []) c.run.new.self t
+                (run_step g.X.Runner.meaning (mgr_view p.mgr) m c.loop-fired.runner c.run.new.self (o, fk c.in-Some.fired) (firings o (map fk rest)) (Events c.in-Events.pair) c.in-Events.ensures.made c.run.ensures.runs c.run.ensures.shuts c.run.ensures.keeps),
           );
     }
 
@@ -80,15 +80,15 @@ returns-in-Stop-clause-takes g c = let i = c.loop-fired.invariant in let p = c.l
 pub returns-in-Stop-clause-ran : goal.returns-in-Stop-clause-ran
 returns-in-Stop-clause-ran g c o = let i = c.loop-fired.invariant in let p = c.loop-fired.passes in let fk = fired_key g.T.Load.tag in let rest = c.pop_first.new.self in let m = mgr_view c.run.new.pass in
     let r = i.ran o in let a = work_with (firings o (map fk c.args.list)) [] c.args.passes.now in let back = firings o (map fk rest) in
-    let t = subst (λ l. HasRunKeys g.X.Runner.runs g.X.Runner.shuts g.X.Runner.keeps r.0 a c.args.runner.now (work (mgr_view p.mgr) (firings o (map fk l)) []) c.loop-fired.runner) c.in-Some.ensures r.2 in
-    let b = run_then g.X.Runner.runs g.X.Runner.shuts g.X.Runner.keeps g.met.X.Runner.keeps_on r.0 1 a c.args.runner.now (work (mgr_view p.mgr) ((o, fk c.in-Some.fired) ∷ back) []) c.loop-fired.runner (work m back []) c.run.new.self t
-    (run_step g.X.Runner.runs g.X.Runner.shuts g.X.Runner.keeps (mgr_view p.mgr) m c.loop-fired.runner c.run.new.self (o, fk c.in-Some.fired) back (Stop c.in-Stop.code c.in-Stop.pair) c.in-Stop.ensures.made c.run.ensures.runs c.run.ensures.shuts c.run.ensures.keeps) in (
+    let t = subst (λ l. HasRunKeys g.X.Runner.meaning r.0 a c.args.runner.now (work (mgr_view p.mgr) (firings o (map fk l)) []) c.loop-fired.runner) c.in-Some.ensures r.2 in
+    let b = run_then g.X.Runner.meaning g.met.X.Runner.laws.keeps_on r.0 1 a c.args.runner.now (work (mgr_view p.mgr) ((o, fk c.in-Some.fired) ∷ back) []) c.loop-fired.runner (work m back []) c.run.new.self t
+    (run_step g.X.Runner.meaning (mgr_view p.mgr) m c.loop-fired.runner c.run.new.self (o, fk c.in-Some.fired) back (Stop c.in-Stop.code c.in-Stop.pair) c.in-Stop.ensures.made c.run.ensures.runs c.run.ensures.shuts c.run.ensures.keeps) in (
       back,
-      worked_then g.X.Runner.runs g.X.Runner.shuts g.X.Runner.keeps g.met.X.Runner.keeps_on (job_keys_of back) a c.args.runner.now (work m back []) c.run.new.self (work m back []) c.shut_all.new.runner b.0
-          (shut_step g.X.Runner.runs g.X.Runner.shuts g.X.Runner.keeps m c.run.new.self c.shut_all.new.runner back (job_keys_of back) c.shut_all.ensures.runs (c.shut_all.ensures.shuts o) c.shut_all.ensures.keeps),
+      worked_then g.X.Runner.meaning g.met.X.Runner.laws.keeps_on (job_keys_of back) a c.args.runner.now (work m back []) c.run.new.self (work m back []) c.shut_all.new.runner b.0
+          (shut_step g.X.Runner.meaning m c.run.new.self c.shut_all.new.runner back (job_keys_of back) c.shut_all.ensures.runs (c.shut_all.ensures.shuts o) c.shut_all.ensures.keeps),
     )
 
 pub returns-clause-ran : goal.returns-clause-ran
 returns-clause-ran g c o = let i = c.loop-fired.invariant in let fk = fired_key g.T.Load.tag in let r = i.ran o in let empty = c.in_default.ensures.0 in let a = work_with (firings o (map fk c.args.list)) [] c.args.passes.now in
-    let t = subst (λ l. HasRunKeys g.X.Runner.runs g.X.Runner.shuts g.X.Runner.keeps r.0 a c.args.runner.now (work (mgr_view c.loop-fired.passes.mgr) (firings o (map fk l)) []) c.loop-fired.runner) empty r.2 in
+    let t = subst (λ l. HasRunKeys g.X.Runner.meaning r.0 a c.args.runner.now (work (mgr_view c.loop-fired.passes.mgr) (firings o (map fk l)) []) c.loop-fired.runner) empty r.2 in
     let k = ap length empty in let n = r.1 in let z = fired_length g.T.Load.tag o c.args.list in let s = t.1 in (t.0, omega arith)
