@@ -20,3 +20,4 @@ pub mod EndsRegistered
 pub mod RunMarks
 pub mod Openings
 pub mod InStripe
+pub mod EndedOrWaits

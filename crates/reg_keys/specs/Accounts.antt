@@ -11,7 +11,8 @@ use Rattle.reg_keys.specs.declared.entry.LoadKind.{LoadKind}
 use Rattle.reg_keys.specs.declared.entry.FiredKey.{FiredKey}
 use Rattle.reg_keys.specs.declared.entry.ShutKey.{ShutKey}
 use Rattle.reg_keys.specs.declared.entry.Entry.{Entry}
-use Rattle.reg_keys.specs.declared.entry.Entry.TheVariants.{Open, Report, Register, Ask, Dispatch, Close}
+use Rattle.reg_keys.specs.declared.entry.Entry.TheVariants.{Open, Report, Register, Withdraw, Ask, Dispatch, Close}
+use Rattle.reg_keys.specs.declared.entry.WithdrawOutcome.TheVariants as Withdraws
 use Rattle.reg_keys.specs.declared.entry.OpenOutcome.TheVariants.{Opened}
 use Rattle.reg_keys.specs.declared.entry.ReportOutcome.TheVariants.{Noted}
 use Rattle.reg_keys.specs.declared.entry.RegisterOutcome.TheVariants.{Waits}
@@ -19,7 +20,7 @@ use Rattle.reg_keys.specs.declared.entry.AskOutcome.TheVariants as Asked
 use Rattle.reg_keys.specs.declared.entry.DispatchOutcome.TheVariants.{Ran}
 use Rattle.reg_keys.specs.declared.entry.CloseOutcome.TheVariants.{Shut}
 use Rattle.reg_keys.specs.Tests.{same, one_if, total, IsIn}
-use Rattle.reg_keys.specs.Histories.{Registered, IsLive, is_live, marks_of}
+use Rattle.reg_keys.specs.Histories.{Registered, IsLive, is_live, marks_of, waiting}
 use Rattle.reg_keys.specs.Promises.{weight, times_run, shuts}
 
 -- ---- numbers
@@ -109,6 +110,15 @@ weight_accepted f _ = 0
 -- registration, and none ended twice.
 abbrev pub EndsWhatWasRegistered : List Entry → Type 0
 EndsWhatWasRegistered past = (f : Key → Opening → LoadKind → ℕ) → weight (weight_ended f) past ≤ weight (weight_accepted f) past
+
+-- the entry gave a registration back
+abbrev pub withdraws : Entry → ℕ
+withdraws (Withdraw key (Withdraws.Back kind)) = 1
+withdraws _ = 0
+
+-- Where nothing was withdrawn, each registration that was accepted ended or waits still, however registrations are weighed
+abbrev pub EndedOrWaits : List Entry → Type 0
+EndedOrWaits past = weight withdraws past ≡ 0 → (f : Key → Opening → LoadKind → ℕ) → weight (weight_ended f) past + total (λ (w : Registered). f w.key w.opening w.kind) (waiting past) ≡ weight (weight_accepted f) past
 
 -- a dispatch that ran something was of an opening that was live, and each Ran key shows its marks
 abbrev pub RunsUnderItsMarks : ℕ → ℕ → List Entry → Type 0

@@ -9,7 +9,7 @@ ghost use Rattle.reg_keys.specs.declared.registration.Dir.{Dir};
 ghost use Rattle.reg_keys.specs.Consistency.{IsConsistent};
 ghost use Rattle.reg_keys.specs.Refusals.{IsRefusal, ChangesNothing};
 ghost use Rattle.reg_keys.specs.World.{WorldStep, first_world, world_at, IsLawful, LosesNoWakeUp};
-ghost use Rattle.reg_keys.specs.Accounts.{DrawsEachOnce, DrawsInItsStripe, ClosesWhatItOpened, ClosesForGood, RunsWhatWasRegistered, EndsWhatWasRegistered, RunsUnderItsMarks, TellsOfFlags};
+ghost use Rattle.reg_keys.specs.Accounts.{DrawsEachOnce, DrawsInItsStripe, ClosesWhatItOpened, ClosesForGood, RunsWhatWasRegistered, EndedOrWaits, EndsWhatWasRegistered, RunsUnderItsMarks, TellsOfFlags};
 
 /// A callback runs at most once and only under its own opening, whatever openings come and go.
 pub fn legal_runs_once()
@@ -35,6 +35,11 @@ pub fn legal_runs_what_was_registered()
 /// registration ended once at most, whether it ran or was shut.
 pub fn legal_ends_what_was_registered()
     ensures { (s : ℕ) (c : ℕ) (past : List Entry) → IsLegal s c past → EndsWhatWasRegistered past }
+{}
+
+/// Where nothing was withdrawn, each registration that was accepted ended, or waits still.
+pub fn legal_ended_or_waits()
+    ensures { (s : ℕ) (c : ℕ) (past : List Entry) → IsLegal s c past → EndedOrWaits past }
 {}
 
 /// What runs is shown the marks that its opening had just before, and the opening was live.

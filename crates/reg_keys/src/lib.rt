@@ -22,7 +22,8 @@ pub use entry::{
 pub use event::{Event, EventName};
 pub use laws::{
     lawful_worlds_lose_no_wake_up, legal_closes_for_good, legal_closes_what_it_opened,
-    legal_draws_each_once, legal_draws_in_its_stripe, legal_ends_what_was_registered,
+    legal_draws_each_once, legal_draws_in_its_stripe, legal_ended_or_waits,
+    legal_ends_what_was_registered,
     legal_has_one_event_each, legal_is_consistent, legal_runs_once, legal_runs_under_its_marks,
     legal_runs_what_was_registered, legal_tells_of_flags, refusals_change_nothing,
 };
