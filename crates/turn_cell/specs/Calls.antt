@@ -93,14 +93,14 @@ module _ {E : Type 0} where
       pub ahead : Ahead v.classes v.seen log
       pub is_part : IsPart stands name_of v.name log p
 
-    module _ {C R : Type 0} (entry : C → R → E) where
-      -- what each answer of one try says: one `fetch_or` was made, and the call was entered, or handed back where that found the turn held or the history at its longest
+    module _ {C R : Type 0} (entry : C → R → E) (answers : C → R → Type 0) where
+      -- what each answer of one try says: one `fetch_or` was made, and the call was entered and the reply answers it, or it was handed back where that found the turn held or the history at its longest
       abbrev pub IsStep : C → View E → Tried P C R E → View E → Type 0
-      IsStep call v (Done reply) w = Entered (entry call reply) v w × (w.tries ≡ v.tries + 1)
+      IsStep call v (Done reply) w = Entered (entry call reply) v w × (w.tries ≡ v.tries + 1) × answers call reply
       IsStep call v (Busy count back) w = (back ≡ call) × (count ≡ w.found / 2) × IsRefused v w
       IsStep call v (Spent back) w = (back ≡ call) × WasSpent v w × (w.tries ≡ v.tries + 1)
 
       -- the same of one that waits for its turn, by one `fetch_or` or more
       abbrev pub HasStepped : C → View E → Stepped P C R E → View E → Type 0
-      HasStepped call v (Whole.Done reply) w = Entered (entry call reply) v w × (v.tries < w.tries)
+      HasStepped call v (Whole.Done reply) w = Entered (entry call reply) v w × (v.tries < w.tries) × answers call reply
       HasStepped call v (Whole.Spent back) w = (back ≡ call) × WasSpent v w × (v.tries < w.tries)

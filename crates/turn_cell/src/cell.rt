@@ -47,7 +47,7 @@ impl<P: Part> TurnCell<P> {
         requires own { IsOf self.now pass.old }
         requires may { P.may (view_of pass.old).name call }
         ensures own { IsOf self.now pass.new }
-        ensures step { HasStepped P.stands P.name P.entry call (view_of pass.old) result (view_of pass.new) }
+        ensures step { HasStepped P.stands P.name P.entry P.answers call (view_of pass.old) result (view_of pass.new) }
     {
         let mut call = call;
         for _ in rt.forever() {
@@ -69,7 +69,7 @@ impl<P: Part> TurnCell<P> {
         requires own { IsOf self.now pass.old }
         requires may { P.may (view_of pass.old).name call }
         ensures own { IsOf self.now pass.new }
-        ensures step { IsStep P.stands P.name P.entry call (view_of pass.old) result (view_of pass.new) }
+        ensures step { IsStep P.stands P.name P.entry P.answers call (view_of pass.old) result (view_of pass.new) }
     {
         let seat = &mut pass.seat;
         let found = self.table.shared.fetch_or::<Take<P>>(seat, 0, 1);
@@ -158,6 +158,7 @@ impl<P: Part> TurnCell<P> {
         requires held { IsHeld P.stands P.name seat.old.me }
         ensures own { (seat.new.table_id ≡ seat.old.table_id) × (seat.new.id ≡ seat.old.id) }
         ensures done { HasRun P.stands P.name P.entry call result seat.old.me seat.new.me }
+        ensures answers { P.answers call result }
     {
         let Some(mut part) = self.table.shared.exchange(seat, 0, None) else {
             unreachable!()

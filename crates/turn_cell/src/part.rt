@@ -26,6 +26,9 @@ pub trait Part: Drop {
     // The plain content of a call and its reply.
     ghost entry: { Self.Call → Self.Reply → Self.Entry };
 
+    // How a reply belongs to its call, beyond what the entry shows of the two: what is handed back is the very value that came, and not one of the same content.
+    ghost answers: { Self.Call → Self.Reply → Type 0 };
+
     /// Answers one call.
     ///
     /// It may count on fewer than 2^62 entries so far, so that a counter of its calls can't wrap.
@@ -34,6 +37,7 @@ pub trait Part: Drop {
         requires may { may (name self.old) call }
         requires short { (h : List (ℕ × Self.Entry)) × stands self.old h × (length h < 2 ^ 62) }
         ensures name { name self.new ≡ name self.old }
+        ensures answers { answers call result }
         ensures step { (h : List (ℕ × Self.Entry)) (seat : ℕ) →
             stands self.old h → stands self.new (h ++ (seat, entry call result) ∷ []) };
 }

@@ -39,6 +39,8 @@ impl Part for Counter {
 
     ghost entry = { λ call reply. (call, reply) };
 
+    ghost answers = { λ call reply. Unit {0} };
+
     fn apply(&mut self, call: u64) -> u64 {
         self.count = self.count.wrapping_add(call);
         self.count
@@ -166,6 +168,8 @@ impl Part for Gate {
     ghost may = { λ n call. Unit {0} };
 
     ghost entry = { λ call reply. reply };
+
+    ghost answers = { λ call reply. Unit {0} };
 
     fn apply(&mut self, _call: ()) -> bool {
         self.begun.store(true, Ordering::SeqCst);

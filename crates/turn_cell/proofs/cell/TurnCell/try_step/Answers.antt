@@ -32,4 +32,4 @@ pub returns-clause-step : goal.returns-clause-step
 returns-clause-step g c = let m = c.args.pass.now.seat.me in let at = c.args.pass.now.rests in
     let t = took g.P.Part.stands g.P.Part.name m c.fetch_or-found.new.seat.me c.fetch_or-found.result c.fetch_or-found.ensures.2 c.if-found-eq1.false in
     let d = c.run.ensures.done t.0 (ap (λ v. v.turn) t.4) in
-    entered g.P.Part.stands g.P.Part.name (g.P.Part.entry c.args.call c.run.result) m.0 c.fetch_or-found.new.seat.me.0 c.run.new.seat.me.0 c.fetch_or-found.result t.0 t.2 t.3 c.if-found.false t.4 d.0 t.7 t.8 at.4 d.2 d.3
+    let e = entered g.P.Part.stands g.P.Part.name (g.P.Part.entry c.args.call c.run.result) m.0 c.fetch_or-found.new.seat.me.0 c.run.new.seat.me.0 c.fetch_or-found.result t.0 t.2 t.3 c.if-found.false t.4 d.0 t.7 t.8 at.4 d.2 d.3 in (e.0, e.1, c.run.ensures.answers)
