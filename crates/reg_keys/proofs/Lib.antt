@@ -21,3 +21,6 @@ pub mod RunMarks
 pub mod Openings
 pub mod InStripe
 pub mod EndedOrWaits
+mod ReportNumbers
+mod OwnOpenings
+mod AllStripes
