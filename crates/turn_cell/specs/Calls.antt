@@ -1,4 +1,4 @@
--- What the calls on a turn cell say, over what their passes know before and after.
+-- To be believed: what the calls on a turn cell say, over what their passes know before and after.
 use Rattle.std.specs.Prelude.{◌≡◌, ℕ, ◌+◌, ◌*◌, ◌/◌, ◌%◌, ◌^◌, ◌<◌, List, [], ◌∷◌, ◌++◌, length, true}
 use mathlib.Core.List.{IsPrefix}
 use Rattle.turn_cell.specs.declared.view.Turn.TheVariants.{Idle}
@@ -60,8 +60,7 @@ module _ {E : Type 0} where
     pub counts : (n : ℕ) → count_in n w.classes ≡ count_in n v.classes + count_in n o.classes
 
   module _ {P : Type 0} (stands : P → Log E → Type 0) (name_of : P → List ℕ) where
-    -- A call was entered. What the pass then has seen begins with all that it had seen and ends with the entry, under the pass's seat; between are entries of other seats alone. So of the pass's own entries it alone is new.
-    -- The last word found was twice the entries before it, and the part stands for this history
+    -- A call was entered. What the pass then has seen begins with all that it had seen and ends with the entry, under the pass's seat; between are entries of other seats alone. So of the pass's own entries it alone is new. The last word found was twice the entries before it, and the part stands for this history
     pub record Entered (e : E) (v w : View E) : Type 0 where
       pub between : Log E
       pub seen : w.seen ≡ (v.seen ++ between) ++ (seat_of v, e) ∷ []

@@ -12,7 +12,7 @@ fetch_sub-requires g c = let m = c.args.pass.now.seat.me in let at = c.args.pass
     let t = took g.P.Part.stands g.P.Part.name m c.fetch_or-found.new.seat.me c.fetch_or-found.result c.fetch_or-found.ensures.2 c.if-found-eq1.false in (
       search rules,
       search rules,
-      gives_back _ _ _ _ (search rules) _ _ t.0 t.1 (ap (λ v. v.turn) t.4) (ap (λ v. v.gone) t.4 ∙ at.3) (t.5 ∙ ap (λ xs. (0, Some t.1) ∷ xs) at.1) (t.6.0, t.6.1 ∙ sym (ap (λ v. v.name) t.4)),
+      gives_back _ _ _ _ (search rules) _ _ t.0 t.1 (ap (λ v. v.turn) t.4) (ap (λ v. v.gone) t.4 ∙ at.3) (t.5 ∙ ap (λ xs. (1, Some t.1) ∷ xs) at.1) (t.6.0, t.6.1 ∙ sym (ap (λ v. v.name) t.4)),
     )
 
 pub run-requires-clause-own : goal.run-requires-clause-own
