@@ -1,4 +1,4 @@
-// What holds of every legal history. Each law is the contract of a function that does nothing.
+//! What holds of every legal history. Each law is the contract of a function that does nothing.
 ghost use Rattle.std.specs.Prelude.{ℕ, ◌<◌, List, ◌++◌, Bool};
 ghost use Rattle.reg_keys.specs.declared.entry.Entry.{Entry};
 ghost use Rattle.reg_keys.specs.Replies.{IsLegal};

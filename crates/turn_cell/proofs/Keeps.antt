@@ -13,7 +13,7 @@ use Rattle.atomic_table.specs.Table.{State, Me, step, keeps, put_back, takes, gi
 use Rattle.atomic_table.proofs.Lists.{at_set, set_here}
 use Rattle.turn_cell.specs.declared.view.Turn.{Turn}
 use Rattle.turn_cell.specs.declared.view.Turn.TheVariants.{Idle, Making, Holds}
-use Rattle.turn_cell.specs.declared.view.Told.TheVariants.{Nothing}
+use Rattle.turn_cell.specs.declared.view.JoinPending.TheVariants.{Nothing}
 use Rattle.turn_cell.specs.declared.view.View.{View}
 use Rattle.turn_cell.specs.Classes.{Within, AreClasses, Apart}
 use Rattle.turn_cell.specs.History.{Log, AtFirsts, Ahead}

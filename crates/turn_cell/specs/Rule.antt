@@ -5,7 +5,7 @@ use lib.ListN.{get_elem?}
 use Rattle.atomic_table.specs.Table.{State, Me, Step, rest}
 use Rattle.turn_cell.specs.declared.view.Turn.{Turn}
 use Rattle.turn_cell.specs.declared.view.Turn.TheVariants.{Idle, Making, Holds}
-use Rattle.turn_cell.specs.declared.view.Told.TheVariants.{Nothing}
+use Rattle.turn_cell.specs.declared.view.JoinPending.TheVariants.{Nothing}
 use Rattle.turn_cell.specs.declared.view.View.{View}
 use Rattle.turn_cell.specs.Classes.{AreClasses, Apart}
 use Rattle.turn_cell.specs.History.{Log, Ahead, AtFirsts}

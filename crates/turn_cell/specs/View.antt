@@ -2,8 +2,8 @@
 use Rattle.std.specs.Prelude.{ℕ, ◌+◌, ◌^◌, ◌⊎◌, ◌||◌, ◌==◌, List, [], ◌∷◌, ◌++◌, true, false}
 use Rattle.turn_cell.specs.declared.view.Turn.{Turn}
 use Rattle.turn_cell.specs.declared.view.Turn.TheVariants.{Idle, Making}
-use Rattle.turn_cell.specs.declared.view.Told.{Told}
-use Rattle.turn_cell.specs.declared.view.Told.TheVariants.{Nothing, Joined}
+use Rattle.turn_cell.specs.declared.view.JoinPending.{JoinPending}
+use Rattle.turn_cell.specs.declared.view.JoinPending.TheVariants.{Nothing, Joined}
 use Rattle.turn_cell.specs.declared.view.View.{View}
 use Rattle.turn_cell.specs.Classes.{first_of, halved, other_half}
 use Rattle.turn_cell.specs.History.{Log, entries_in, Ahead, longer}
@@ -58,6 +58,6 @@ module _ {E : Type 0} where
   gone_view = record (first_view []) { classes = []; gone = true }
 
   -- of two passes that were joined, one had seen the beginning of what the other had, and nothing of its own was behind that
-  abbrev pub Fits : Told E → Type 0
+  abbrev pub Fits : JoinPending E → Type 0
   Fits Nothing = Unit {0}
   Fits (Joined xs cs ys ds) = Ahead ds ys xs ⊎ Ahead cs xs ys

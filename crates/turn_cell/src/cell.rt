@@ -1,4 +1,4 @@
-// The lock, and its calls in the order of use.
+//! The lock, and its calls in the order of use.
 ghost use Rattle.std.specs.Prelude.{◌≡◌, ◌≤◌, ◌<◌, ◌^◌, [], IfOk, IfErr, IsOk, Some, length};
 ghost use Rattle.turn_cell.specs.Held.{HasApplied};
 
@@ -14,8 +14,8 @@ use std::marker::Brand;
 use std::sync::Wait;
 use std::thread::yield_now;
 
-/// The words of the table, and the one that is the cell's. The others keep the lines of the processor's cache
-/// that it lies in free of anything else that is written.
+/// The words of the table, and the one that is the cell's. The others keep anything else that is written out
+/// of the lines of the processor's cache that it lies in.
 const WORDS: usize = 32;
 
 const WORD: usize = 16;
@@ -34,7 +34,8 @@ const SPENT_WORD: u64 = 1 << 63;
 
 /// A part, and the turn to call it. One thread has the turn at a time.
 ///
-/// A call that nobody is in the way of makes one `fetch_or`, moves the part out of its slot and back, and makes one `fetch_add`.
+/// A call that nobody is in the way of makes one `fetch_or`, answers where the part lies, and makes one
+/// `fetch_add`.
 #[derive(Drop)]
 pub struct TurnCell<P: Part> {
     table: Table<Option<P>, View<P::Entry>, P, Turns<P>, Global>,
@@ -46,7 +47,8 @@ impl<P: Part> TurnCell<P> {
     ghost use Rattle.turn_cell.specs.Calls.{IsOf, view_of, IsRefused, CountsAhead, IsSplit, IsJoined, HasClosed, IsStep, HasStepped};
     ghost use Rattle.turn_cell.specs.Held.{IsHeld, IsReady, HasRun, HasEnded};
 
-    /// A cell round a part that stands for no calls, and its first pass, which has all seats and has seen nothing.
+    /// A cell round a part that stands for no calls, and its first pass, which has all seats and has seen
+    /// nothing.
     pub fn new(alloc: Global, part: P) -> Result<(TurnCell<P>, Pass<P, P::Entry>), AllocError>
         requires { P.stands part [] }
         ensures own { IfOk result (λ c. IsOf c.0 c.1) }
@@ -61,7 +63,8 @@ impl<P: Part> TurnCell<P> {
         Ok((TurnCell { table }, Pass { seat }))
     }
 
-    /// Makes a call, and waits while others have the turn: it tries again, and yields between the tries.
+    /// Makes a call, and waits while others have the turn: it tries again, and between the tries it looks
+    /// whether the turn is free, and yields where it looked in vain.
     pub fn step<R: Wait>(&self, rt: &R, pass: &mut Pass<P, P::Entry>, call: P::Call) -> Stepped<P>
         requires own { IsOf self.now pass.old }
         requires may { P.may (view_of pass.old).name call }
@@ -105,7 +108,8 @@ impl<P: Part> TurnCell<P> {
         Tried::Done(self.run::<Brand>(seat, call))
     }
 
-    /// How many entries the history has, at one load.
+    /// How many entries the history has, at one load. To a pass without all seats it says that a history of
+    /// this length may go on from what it has seen, and no more.
     pub fn seen(&self, pass: &mut Pass<P, P::Entry>) -> u64
         requires { IsOf self.now pass.old }
         ensures own { IsOf self.now pass.new }
@@ -116,7 +120,8 @@ impl<P: Part> TurnCell<P> {
         self.table.shared.load::<Look>(&mut pass.seat, WORD) / 2
     }
 
-    /// A pass that has seen what this one has, with no calls of its own. It takes half of this one's first class of seats.
+    /// A pass that has seen what this one has, with no calls of its own. It takes half of this one's first
+    /// class of seats.
     ///
     /// It takes no memory, and always succeeds.
     pub fn split(&self, pass: &mut Pass<P, P::Entry>) -> Result<Pass<P, P::Entry>, AllocError>
@@ -143,9 +148,11 @@ impl<P: Part> TurnCell<P> {
         self.table.shared.load::<Look>(&mut pass.seat, WORD);
     }
 
-    /// Ends the cell, and gives back its part. Where the turn is held it gives back cell and pass. It makes one `fetch_or`, and never tries again.
+    /// Ends the cell, and gives back its part. Where the turn is held it gives back cell and pass. It makes
+    /// one `fetch_or`, and never tries again.
     ///
-    /// No call of another thread can be under way on a cell that is passed by value. That it then gives the part is not proved.
+    /// No call of another thread can be under way on a cell that is passed by value. That it then gives the
+    /// part is not proved.
     pub fn close(self, mut pass: Pass<P, P::Entry>) -> Result<P, (TurnCell<P>, Pass<P, P::Entry>)>
         requires { IsOf self pass }
         ensures part { IfOk result (λ p. HasClosed P.stands P.name (view_of pass) p) }
@@ -165,8 +172,9 @@ impl<P: Part> TurnCell<P> {
         Ok(part)
     }
 
-    /// Lets time pass while another has the turn: looks at the word some dozens of times, so that its line stays
-    /// with the other thread but for reads, and yields only then. What it sees decides nothing; the next try does.
+    /// Lets time pass while another has the turn: looks at the word some dozens of times, so that its line
+    /// stays with the other thread but for reads, and yields only then. What it sees decides nothing; the
+    /// next try does.
     fn watch(&self) {
         for _ in 0..LOOKS {
             if self.table.shared.peek(WORD) % 2 == 0 {
@@ -177,7 +185,7 @@ impl<P: Part> TurnCell<P> {
         yield_now();
     }
 
-    // Applies the call that N names, with the turn held.
+    /// Applies the call that N names, with the turn held.
     fn run<N: Asked<P::Call>>(
         &self,
         seat: &mut Seat<Option<P>, View<P::Entry>>,
@@ -197,7 +205,7 @@ impl<P: Part> TurnCell<P> {
         reply
     }
 
-    // Ends the turn, with the entry that W names. The reply is what the caller picks the entry by.
+    /// Ends the turn, with the entry that W names. The reply is what the caller picks the entry by.
     fn end<W: Said<P::Entry>>(&self, seat: &mut Seat<Option<P>, View<P::Entry>>, reply: &P::Reply)
         requires own { seat.old.table_id ≡ self.now.table.shared.table_id }
         requires ready { IsReady P.stands P.name W.item seat.old.me }
@@ -208,7 +216,7 @@ impl<P: Part> TurnCell<P> {
     }
 }
 
-// Applies a call to the part in a slot, where it lies.
+/// Applies a call to the part in a slot, where it lies.
 fn answer<P: Part>(slot: &mut Option<P>, call: P::Call) -> P::Reply
     requires { (p : P) × (slot.old ≡ Some p) × P.may (P.name p) call × (h : _) × P.stands p h × (length h < 2 ^ 62) }
     ensures part { (p : P) → slot.old ≡ Some p → HasApplied P.stands P.name (P.entry call result) p slot.new }
