@@ -1,7 +1,6 @@
 -- Where nothing was withdrawn, what ended and what waits weigh what was accepted.
-use Rattle.std.proofs.Common.{◌≡◌, ℕ, ◌+◌, ◌≤◌, List, [], ◌∷◌, Bool, sym, ap, subst, arith}
+use Rattle.std.proofs.Common.{◌≡◌, ℕ, ◌+◌, List, [], ◌∷◌, Bool, sym, ap, subst, arith}
 use Rattle.std.specs.Prelude.{Option, None, filter, not}
-use Rattle.std.specs.List.{list_any}
 use Rattle.reg_keys.specs.declared.opening.Opening.{Opening}
 use Rattle.reg_keys.specs.declared.event.EventName.{EventName}
 use Rattle.reg_keys.specs.declared.registration.Key.{Key}
@@ -12,7 +11,7 @@ use Rattle.reg_keys.specs.declared.entry.DispatchOutcome.TheVariants as Dispatch
 use Rattle.reg_keys.specs.declared.entry.CloseOutcome.TheVariants as Closes
 use Rattle.reg_keys.specs.declared.entry.Entry.{Entry}
 use Rattle.reg_keys.specs.declared.entry.Entry.TheVariants.{Open, Report, Register, Withdraw, Ask, Dispatch, Close}
-use Rattle.reg_keys.specs.Tests.{same, same_key, total}
+use Rattle.reg_keys.specs.Tests.{same, total}
 use Rattle.reg_keys.specs.Histories.{marks_of, Registered, without, keys_run, keys_shut, waiting}
 use Rattle.reg_keys.specs.Replies.{fires, fired_as, shut_as, event_named, reply_of, IsLegal}
 use Rattle.reg_keys.specs.Promises.{weight}

@@ -1,23 +1,26 @@
 pub mod TestLemmas
 pub mod Pasts
 pub mod RightReplies
-pub mod Sound
 pub mod EndsOnce
-pub mod OneEvent
-pub mod DueBefore
-pub mod Reuse
 pub mod Removal
 pub mod Drawing
-pub mod RunsRegistered
-pub mod Flags
-pub mod Ascending
-pub mod FlagsWait
-pub mod Consistent
-pub mod Refusing
-pub mod Marking
-pub mod Wakes
-pub mod EndsRegistered
-pub mod RunMarks
-pub mod Openings
 pub mod InStripe
-pub mod EndedOrWaits
+pub mod Openings
+mod Sound
+mod OneEvent
+mod DueBefore
+mod Reuse
+mod RunsRegistered
+mod Flags
+mod Ascending
+mod FlagsWait
+mod Consistent
+mod Refusing
+mod Marking
+mod Wakes
+mod EndsRegistered
+mod RunMarks
+mod EndedOrWaits
+mod ReportNumbers
+mod OwnOpenings
+mod AllStripes

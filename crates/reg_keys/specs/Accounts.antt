@@ -1,7 +1,5 @@
--- What is promised of every legal history in sums over its entries, whatever their order, and of
--- what a flag's owner is told.
-use Rattle.std.specs.Prelude.{◌≡◌, ℕ, ◌+◌, ◌≤◌, ◌==◌, ◌%◌, List, ◌∷◌, ◌++◌, false, Option, Some, None}
-use Rattle.reg_keys.specs.declared.limits.TheConstants.{STRIPES}
+-- To be believed: what is promised of every legal history in sums over its entries, and what a flag's owner is told.
+use Rattle.std.specs.Prelude.{◌≡◌, ℕ, ◌+◌, ◌≤◌, ◌==◌, ◌%◌, ◌⊎◌, List, [], ◌∷◌, ◌++◌, false, Option, Some, None}
 use Rattle.reg_keys.specs.declared.opening.Opening.{Opening}
 use Rattle.reg_keys.specs.declared.event.EventName.{EventName}
 use Rattle.reg_keys.specs.declared.registration.Key.{Key}
@@ -20,7 +18,7 @@ use Rattle.reg_keys.specs.declared.entry.AskOutcome.TheVariants as Asked
 use Rattle.reg_keys.specs.declared.entry.DispatchOutcome.TheVariants.{Ran}
 use Rattle.reg_keys.specs.declared.entry.CloseOutcome.TheVariants.{Shut}
 use Rattle.reg_keys.specs.Tests.{same, one_if, total, IsIn}
-use Rattle.reg_keys.specs.Histories.{Registered, IsLive, is_live, marks_of, waiting}
+use Rattle.reg_keys.specs.Histories.{next_number, Registered, IsLive, is_live, mark_of, marks_of, waiting}
 use Rattle.reg_keys.specs.Promises.{weight, times_run, shuts}
 
 -- ---- numbers
@@ -49,12 +47,23 @@ pub record DrawsEachOnce (past : List Entry) : Type 0 where
   pub openings : (o : Opening) → weight (opens o) past ≤ 1
   pub runs : (k : Key) → weight (times_run k) past ≤ 1
 
--- Each number is drawn in its own stripe, and so is the number of each key that ran. Numbers of
--- different stripes are therefore different.
+-- Each number is drawn in its own stripe, and so is the number of each key that ran. Numbers of different stripes are therefore different.
 pub record DrawsInItsStripe (s : ℕ) (past : List Entry) : Type 0 where
-  pub numbers : (n : ℕ) → 1 ≤ weight (draws n) past → n % STRIPES ≡ s
-  pub openings : (o : Opening) → 1 ≤ weight (opens o) past → o.number % STRIPES ≡ s
-  pub runs : (k : Key) → 1 ≤ weight (times_run k) past → k.number % STRIPES ≡ s
+  pub numbers : (n : ℕ) → 1 ≤ weight (draws n) past → n % 32 ≡ s
+  pub openings : (o : Opening) → 1 ≤ weight (opens o) past → o.number % 32 ≡ s
+  pub runs : (k : Key) → 1 ≤ weight (times_run k) past → k.number % 32 ≡ s
+
+-- How often the number was drawn for a report that was accepted. It was the next one after the entries before, and no entry shows it.
+abbrev pub times_reported : ℕ → ℕ → ℕ → List Entry → ℕ
+times_reported s c n [] = 0
+times_reported s c n (Report o ds (Noted e) ∷ past) = one_if (next_number s c past == n) + times_reported s c n past
+times_reported s c n (_ ∷ past) = times_reported s c n past
+
+-- A report has a number of its own: no other report has it, and no opening, key or event. It is of the stripe, and what a direction's mark shows is the number of a report or of the opening.
+pub record NumbersReportsAlone (s c : ℕ) (past : List Entry) : Type 0 where
+  pub once : (n : ℕ) → times_reported s c n past + weight (draws n) past ≤ 1
+  pub stripe : (n : ℕ) → 1 ≤ times_reported s c n past → n % 32 ≡ s
+  pub marks : (o : Opening) (d : Dir) → (mark_of s c past o d ≡ o.number) ⊎ (1 ≤ times_reported s c (mark_of s c past o d) past)
 
 -- ---- openings
 
@@ -87,8 +96,7 @@ abbrev pub weight_registered : (Registered → ℕ) → Entry → ℕ
 weight_registered f (Register o d m kind (Waits key e)) = f (record { key = key; opening = o; dir = d; kind = kind })
 weight_registered f _ = 0
 
--- however registrations are weighed, those that ran weigh no more than those that were accepted: what
--- ran shows the key, opening, direction and tag of its own registration
+-- however registrations are weighed, those that ran weigh no more than those that were accepted: what ran shows the key, opening, direction and tag of its own registration
 abbrev pub RunsWhatWasRegistered : List Entry → Type 0
 RunsWhatWasRegistered past = (f : Registered → ℕ) → weight (weight_run f) past ≤ weight (weight_registered f) past
 
@@ -105,9 +113,7 @@ abbrev pub weight_accepted : (Key → Opening → LoadKind → ℕ) → Entry �
 weight_accepted f (Register o d m kind (Waits key e)) = f key o kind
 weight_accepted f _ = 0
 
--- However registrations are weighed, those that ran and those that were shut together weigh no more
--- than those that were accepted: each that ended shows the key, opening and tag of its own
--- registration, and none ended twice.
+-- However registrations are weighed, those that ran and those that were shut together weigh no more than those that were accepted: each that ended shows the key, opening and tag of its own registration, and none ended twice.
 abbrev pub EndsWhatWasRegistered : List Entry → Type 0
 EndsWhatWasRegistered past = (f : Key → Opening → LoadKind → ℕ) → weight (weight_ended f) past ≤ weight (weight_accepted f) past
 

@@ -1,4 +1,4 @@
--- How the definitions fit together in every legal history.
+-- To be believed: how the definitions fit together in every legal history.
 use Rattle.std.specs.Prelude.{◌≡◌, ◌<◌, ◌&&◌, List, [], ◌∷◌, true, false, Bool}
 use Rattle.std.specs.List.{list_any}
 use Rattle.reg_keys.specs.declared.registration.Key.{Key}

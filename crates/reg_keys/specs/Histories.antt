@@ -1,9 +1,8 @@
--- What holds after a history of one stripe. Each definition reads the history as a past: the list of
--- its entries, the latest first, so that it can say what the latest entry changes. `s` is the stripe,
--- and `c` the count that the stripe began with.
+-- To be believed: what holds after a history of one stripe.
+-- Each definition reads the history as a past: the list of its entries, the latest first, so that it can
+-- say what the latest entry changes. `s` is the stripe, and `c` the count that the stripe began with.
 use Rattle.std.specs.Prelude.{◌≡◌, ℕ, ◌+◌, ◌*◌, ◌&&◌, ◌||◌, ◌==◌, not, List, [], ◌∷◌, ◌++◌, map, filter, reverse, true, false, Bool, Option, Some, None, if◌then◌else◌}
 use Rattle.std.specs.List.{list_any}
-use Rattle.reg_keys.specs.declared.limits.TheConstants.{STRIPES}
 use Rattle.reg_keys.specs.declared.opening.Opening.{Opening}
 use Rattle.reg_keys.specs.declared.event.EventName.{EventName}
 use Rattle.reg_keys.specs.declared.registration.Key.{Key}
@@ -36,8 +35,7 @@ abbrev pub count_named : Option EventName → ℕ → ℕ
 count_named None n = n
 count_named (Some e) n = n + 1
 
--- the count: the first one, and one more for each number drawn since. An opening, an accepted report
--- and a registration draw one each, and then an event one more.
+-- the count: the first one, and one more for each number drawn since. An opening, an accepted report and a registration draw one each, and then an event one more.
 abbrev pub count_after : ℕ → List Entry → ℕ
 count_after c [] = c
 count_after c (Open fd (Opened o) ∷ past) = count_after c past + 1
@@ -48,7 +46,7 @@ count_after c (_ ∷ past) = count_after c past
 
 -- the number that is drawn next
 abbrev pub next_number : ℕ → ℕ → List Entry → ℕ
-next_number s c past = STRIPES * count_after c past + s
+next_number s c past = 32 * count_after c past + s
 
 -- ---- openings
 
@@ -90,8 +88,7 @@ abbrev pub names_mark : ℕ → Option ℕ → Bool
 names_mark now None = false
 names_mark now (Some m) = m == now
 
--- whether a direction counts as ready: from the opening on and after each report that names it, until
--- a registration names its mark
+-- whether a direction counts as ready: from the opening on and after each report that names it, until a registration names its mark
 abbrev pub ready_bits : ℕ → ℕ → List Entry → Opening → Dir → Bool
 ready_bits s c [] o d = false
 ready_bits s c (Open fd (Opened p) ∷ past) o d = same p o || ready_bits s c past o d
@@ -157,8 +154,7 @@ pub record EventOut : Type 0 where
 abbrev pub is_of : Opening → EventOut → Bool
 is_of o x = same o x.event.opening
 
--- the event that the latest entry names, if it names one, comes to those that are out, with the
--- directions of the keys of its opening that are due now
+-- the event that the latest entry names, if it names one, comes to those that are out, with the directions of the keys of its opening that are due now
 abbrev pub put_out : ℕ → ℕ → List Entry → Option EventName → List EventOut → List EventOut
 put_out s c past None outs = outs
 put_out s c past (Some e) outs = outs ++ record { event = e; read = due_in s c past e.opening Read; write = due_in s c past e.opening Write } ∷ []
@@ -213,8 +209,7 @@ abbrev pub flag_back : LoadKind → Key → List Unasked → List Unasked
 flag_back (Job tag) k fs = fs
 flag_back Flag k fs = not_asked k fs
 
--- the flags that are unasked: each from its registration until an answer has told that it ran or was
--- shut, or it was given back
+-- the flags that are unasked: each from its registration until an answer has told that it ran or was shut, or it was given back
 abbrev pub unasked : List Entry → List Unasked
 unasked [] = []
 unasked (Register o d m kind (Waits key e) ∷ past) = flag_made kind key o (unasked past)

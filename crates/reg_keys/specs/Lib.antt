@@ -4,6 +4,8 @@ pub mod Histories
 pub mod Replies
 pub mod Promises
 pub mod Accounts
+pub mod OwnOpenings
+pub mod AllStripes
 pub mod Consistency
 pub mod Refusals
 pub mod Worked

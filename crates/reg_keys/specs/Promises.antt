@@ -1,4 +1,4 @@
--- What is promised of every legal history.
+-- To be believed: that in every legal history a registration runs at most once, and has one event out while it is due.
 use Rattle.std.specs.Prelude.{◌≡◌, ℕ, ◌≤◌, List, [], ◌∷◌, ◌++◌, true, false, Bool, Option}
 use Rattle.std.specs.List.{list_any}
 use Rattle.reg_keys.specs.declared.opening.Opening.{Opening}

@@ -1,4 +1,4 @@
--- A refusal changes nothing but the history.
+-- To be believed: a refusal changes nothing but the history.
 use Rattle.std.specs.Prelude.{◌≡◌, ℕ, List, ◌∷◌}
 use Rattle.reg_keys.specs.declared.opening.Opening.{Opening}
 use Rattle.reg_keys.specs.declared.registration.Dir.{Dir}

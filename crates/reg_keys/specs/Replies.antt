@@ -1,7 +1,6 @@
--- The one reply that each call must have after a past, and the histories in which each call has it.
-use Rattle.std.specs.Prelude.{◌≡◌, ℕ, ◌+◌, ◌&&◌, ◌||◌, not, nat_lt, nat_le, List, [], ◌∷◌, map, filter, length, true, false, Bool, Option, Some, None, if◌then◌else◌}
+-- To be believed: the one reply that each call must have after a past, and the histories in which each call has it.
+use Rattle.std.specs.Prelude.{◌≡◌, ℕ, ◌+◌, ◌-◌, ◌^◌, ◌&&◌, ◌||◌, not, nat_lt, nat_le, List, [], ◌∷◌, map, filter, length, true, false, Bool, Option, Some, None, if◌then◌else◌}
 use Rattle.std.specs.List.{list_any}
-use Rattle.reg_keys.specs.declared.limits.TheConstants.{PLACES, FLAGS, LAST_COUNT}
 use Rattle.reg_keys.specs.declared.opening.Opening.{Opening}
 use Rattle.reg_keys.specs.declared.event.EventName.{EventName}
 use Rattle.reg_keys.specs.declared.registration.Key.{Key}
@@ -34,14 +33,13 @@ use Rattle.reg_keys.specs.Histories.{count_after, next_number, owner_of, is_live
 
 -- the numbers of a stripe are at their end
 abbrev pub is_spent : ℕ → List Entry → Bool
-is_spent c past = nat_le LAST_COUNT (count_after c past)
+is_spent c past = nat_le (2 ^ 50 - 1) (count_after c past)
 
 -- some event of this opening is out
 abbrev pub has_out : ℕ → ℕ → List Entry → Opening → Bool
 has_out s c past o = list_any (is_of o) (events_out s c past)
 
--- the event that a call names for an opening: a new one exactly where, after the call, a key of the
--- opening is due and no event of it is out. The call is the latest entry, and names none there yet.
+-- the event that a call names for an opening: a new one exactly where, after the call, a key of the opening is due and no event of it is out. The call is the latest entry, and names none there yet.
 abbrev pub event_named : ℕ → ℕ → List Entry → Opening → Option EventName
 event_named s c past o = if has_due s c past o && not (has_out s c past o) then Some (record { number = next_number s c past; opening = o }) else None
 
@@ -78,7 +76,7 @@ is_flag Flag = true
 
 -- no place is left for this load
 abbrev pub is_crowded : List Entry → Opening → LoadKind → Bool
-is_crowded past o kind = nat_le PLACES (places_taken past o) || (is_flag kind && nat_le FLAGS (length (unasked past)))
+is_crowded past o kind = nat_le 4 (places_taken past o) || (is_flag kind && nat_le 512 (length (unasked past)))
 
 -- what `Register` answers
 abbrev pub register_reply : ℕ → ℕ → List Entry → Opening → Dir → Option ℕ → LoadKind → RegisterOutcome

@@ -1,4 +1,4 @@
--- Tests that the definitions are made of.
+-- To be believed: the tests and sums that the other definitions are made of.
 use Rattle.std.specs.Prelude.{◌≡◌, ℕ, ◌+◌, ◌&&◌, ◌==◌, ◌⊎◌, List, [], ◌∷◌, true, false, Bool}
 use Rattle.reg_keys.specs.declared.opening.Opening.{Opening}
 use Rattle.reg_keys.specs.declared.event.EventName.{EventName}

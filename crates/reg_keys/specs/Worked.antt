@@ -1,5 +1,6 @@
--- Histories worked by hand, in the order of their entries. Each is of stripe 0 and its
--- descriptor 0; one has the descriptor 32 besides.
+-- To be believed: histories worked by hand, by which the definitions themselves are tested.
+-- They stand in the order of their entries. Each is of stripe 0 and its descriptor 0; one has the
+-- descriptor 32 besides.
 use Rattle.std.specs.Prelude.{ℕ, ◌-◌, ◌*◌, ◌^◌, List, [], ◌∷◌, Some, None}
 use Rattle.reg_keys.specs.declared.opening.Opening.{Opening}
 use Rattle.reg_keys.specs.declared.event.EventName.{EventName}

@@ -1,6 +1,7 @@
--- The devices behind a stripe: they become ready and are used up, pollers see it and report it, and
--- callers try, fail and register. This is the project's own model of edge reports: an edge for each
--- change, a report for one or more edges, and reports without cause.
+-- To be believed: the devices behind a stripe, and that no wake-up of theirs is lost.
+-- Devices become ready and are used up, pollers see it and report it, and callers try, fail and register.
+-- This is the project's own model of edge reports: an edge for each change, a report for one or more
+-- edges, and reports without cause.
 use Rattle.std.specs.Prelude.{◌≡◌, ℕ, ◌+◌, ◌-◌, ◌<◌, ◌≤◌, ◌&&◌, ◌==◌, ◌⊎◌, List, [], ◌∷◌, ◌++◌, true, false, Bool, Some, if◌then◌else◌}
 use Rattle.reg_keys.specs.declared.opening.Opening.{Opening}
 use Rattle.reg_keys.specs.declared.registration.Dir.{Dir}

@@ -1,5 +1,5 @@
-// What a history of a stripe is made of: for each call its plain content and the plain content of its
-// reply. Only contracts speak of entries; no value of these types is made when the program runs.
+//! What a history of a stripe is made of: for each call its plain content and the plain content of its
+//! reply. Only contracts speak of entries; no value of these types is made when the program runs.
 use crate::event::EventName;
 use crate::opening::Opening;
 use crate::registration::{Dir, Dirs, Key, Marks};

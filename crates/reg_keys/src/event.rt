@@ -1,5 +1,5 @@
-// An event says that a registration of an opening may run. It is handed from the call that names it
-// to the dispatcher that spends it, so it can't be copied.
+//! An event says that a registration of an opening may run. It is handed from the call that names it
+//! to the dispatcher that spends it, so it can't be copied.
 ghost use Rattle.std.specs.Prelude.{◌≡◌};
 
 use crate::opening::Opening;

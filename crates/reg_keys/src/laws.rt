@@ -1,6 +1,5 @@
-// What holds of every legal history. Each law is the contract of a function that does nothing.
+//! What holds of every legal history. Each law is the contract of a function that does nothing.
 ghost use Rattle.std.specs.Prelude.{ℕ, ◌<◌, List, ◌++◌, Bool};
-ghost use Rattle.reg_keys.specs.declared.limits.TheConstants.{STRIPES};
 ghost use Rattle.reg_keys.specs.declared.entry.Entry.{Entry};
 ghost use Rattle.reg_keys.specs.Replies.{IsLegal};
 ghost use Rattle.reg_keys.specs.Promises.{RunsOnce, HasOneEventEach};
@@ -9,7 +8,9 @@ ghost use Rattle.reg_keys.specs.declared.registration.Dir.{Dir};
 ghost use Rattle.reg_keys.specs.Consistency.{IsConsistent};
 ghost use Rattle.reg_keys.specs.Refusals.{IsRefusal, ChangesNothing};
 ghost use Rattle.reg_keys.specs.World.{WorldStep, first_world, world_at, IsLawful, LosesNoWakeUp};
-ghost use Rattle.reg_keys.specs.Accounts.{DrawsEachOnce, DrawsInItsStripe, ClosesWhatItOpened, ClosesForGood, RunsWhatWasRegistered, EndedOrWaits, EndsWhatWasRegistered, RunsUnderItsMarks, TellsOfFlags};
+ghost use Rattle.reg_keys.specs.Accounts.{DrawsEachOnce, DrawsInItsStripe, NumbersReportsAlone, ClosesWhatItOpened, ClosesForGood, RunsWhatWasRegistered, EndedOrWaits, EndsWhatWasRegistered, RunsUnderItsMarks, TellsOfFlags};
+ghost use Rattle.reg_keys.specs.OwnOpenings.{NamesOwnOpenings};
+ghost use Rattle.reg_keys.specs.AllStripes.{AreLegal, HappensOnce};
 
 /// A callback runs at most once and only under its own opening, whatever openings come and go.
 pub fn legal_runs_once()
@@ -51,7 +52,27 @@ pub fn legal_runs_under_its_marks()
 /// those of all stripes together.
 pub fn legal_draws_in_its_stripe()
     ensures { (s : ℕ) (c : ℕ) (past : List Entry)
-        → s < STRIPES → IsLegal s c past → DrawsInItsStripe s past }
+        → s < 32 → IsLegal s c past → DrawsInItsStripe s past }
+{}
+
+/// The number of a report is drawn as all others are: once, and in its own stripe. It is what the marks
+/// show.
+pub fn legal_numbers_reports_alone()
+    ensures { (s : ℕ) (c : ℕ) (past : List Entry)
+        → s < 32 → IsLegal s c past → NumbersReportsAlone s c past }
+{}
+
+/// What a reply names is its own: an opening of the descriptor that was asked for, an event of the
+/// opening that the call is about, a key of the stripe.
+pub fn legal_names_own_openings()
+    ensures { (s : ℕ) (c : ℕ) (past : List Entry)
+        → s < 32 → IsLegal s c past → NamesOwnOpenings s past }
+{}
+
+/// Over all stripes no number is drawn twice, so an opening is made once at most, and a key runs once at
+/// most.
+pub fn legal_stripes_happen_once()
+    ensures { (firsts : ℕ → ℕ) (pasts : ℕ → List Entry) → AreLegal firsts pasts → HappensOnce firsts pasts }
 {}
 
 /// Each opening that was made is live, or was closed, once.

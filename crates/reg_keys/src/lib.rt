@@ -1,10 +1,14 @@
-// What the calls of a table of registrations say to one another: openings of descriptors, keys of
-// registrations, directions, marks and events, and the history that one stripe of the table makes of
-// them. The definitions in specs/ say of such a history, entry by entry, what is live, waiting, due
-// and out after it, and which reply each call must have.
-//
-// The promise: in every legal history a registration runs at most once, only under its own opening
-// and only after it was due, and a due registration has exactly one event out.
+//! What the calls of a table of registrations say to one another: openings of descriptors, keys of
+//! registrations, directions, marks and events, and the history that one stripe of the table makes of
+//! them. The definitions in specs/ say of such a history, entry by entry, what is live, waiting, due
+//! and out after it, and which reply each call must have.
+//!
+//! The promise: in every legal history a registration runs at most once, only under its own opening
+//! and only after it was due, and a due registration has exactly one event out.
+//!
+//! What holds of every legal history is had by calling a law: a function that does nothing, whose
+//! contract is the law. Of the proofs `TestLemmas`, `Pasts`, `RightReplies`, `EndsOnce` and `Removal` are
+//! written to be cited by crates that compute with histories themselves; the others prove the laws.
 #![tactic(auto)]
 
 mod entry;
@@ -23,11 +27,15 @@ pub use event::{Event, EventName};
 pub use laws::{
     lawful_worlds_lose_no_wake_up, legal_closes_for_good, legal_closes_what_it_opened,
     legal_draws_each_once, legal_draws_in_its_stripe, legal_ended_or_waits,
-    legal_ends_what_was_registered,
-    legal_has_one_event_each, legal_is_consistent, legal_runs_once, legal_runs_under_its_marks,
-    legal_runs_what_was_registered, legal_tells_of_flags, refusals_change_nothing,
+    legal_ends_what_was_registered, legal_has_one_event_each, legal_is_consistent,
+    legal_names_own_openings, legal_numbers_reports_alone, legal_runs_once,
+    legal_runs_under_its_marks, legal_runs_what_was_registered, legal_stripes_happen_once,
+    legal_tells_of_flags, refusals_change_nothing,
 };
-pub use limits::{DESCRIPTORS, FLAGS, LAST_COUNT, PLACES, STRIPE_DESCRIPTORS, STRIPES};
+pub use limits::{
+    DESCRIPTORS, FLAGS, LAST_COUNT, PLACES, STRIPE_DESCRIPTORS, STRIPES,
+    limits_are_those_of_the_definitions,
+};
 pub use opening::Opening;
 pub use registration::{Dir, Dirs, Key, Marks};
 pub use worked::{

@@ -1,5 +1,5 @@
-// An opening is one use of a descriptor, from its opening to its closing. Descriptors are used again
-// and openings never are, so that a late call can be told from one that belongs.
+//! An opening is one use of a descriptor, from its opening to its closing. Descriptors are used again
+//! and openings never are, so that a late call can be told from one that belongs.
 ghost use Rattle.std.specs.Prelude.{◌≡◌, ◌<◌, ◌^◌, ◌%◌};
 ghost use Rattle.reg_keys.specs.Token.{token_of, opening_of};
 

@@ -1,5 +1,5 @@
-// What a registration is made of: a direction to wait for, the key that it is known by, and the marks
-// that tell which report it has seen.
+//! What a registration is made of: a direction to wait for, the key that it is known by, and the marks
+//! that tell which report it has seen.
 
 /// The name of one registration. The number is drawn from the count of the stripe, and no other
 /// registration, opening, report or event of the stripe has it.

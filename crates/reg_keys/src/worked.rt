@@ -1,5 +1,5 @@
-// Histories worked by hand are legal by the definitions: each entry has the one reply that it must
-// have. It is the test of the definitions themselves.
+//! Histories worked by hand are legal by the definitions: each entry has the one reply that it must
+//! have. It is the test of the definitions themselves.
 ghost use Rattle.std.specs.Prelude.{◌-◌, ◌^◌};
 ghost use Rattle.reg_keys.specs.Histories.{past_of};
 ghost use Rattle.reg_keys.specs.Replies.{IsLegal};

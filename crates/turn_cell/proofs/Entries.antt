@@ -7,7 +7,7 @@ use Rattle.std.proofs.Math.Nat.{mod-eq_of_lt}
 use Rattle.std.proofs.lemmas.Nat.{pow-add}
 use Rattle.turn_cell.specs.Weights.{weigh, one_if}
 use Rattle.turn_cell.specs.Classes.{InClass, Within, within, OnlyFirsts, AreClasses, Apart, first_of, halved, other_half}
-use Rattle.turn_cell.specs.History.{Log, entries_in, Foreign, AtFirsts}
+use Rattle.turn_cell.specs.History.{Log, entries_in, Foreign, Ahead, AtFirsts}
 use Rattle.turn_cell.proofs.Classes.{left_within, other_out, within_is, is_within, within-append}
 use Rattle.turn_cell.proofs.Seats.{first_within}
 
@@ -104,3 +104,12 @@ module _ {E : Type 0} (cs ds : List (ℕ × ℕ)) where
       by_test : (b d : Bool) → d ≡ false → (b || d) ≡ b
       by_test true d is = refl
       by_test false d is = is
+
+-- behind what all seats have seen there is nothing
+module _ {E : Type 0} (cs : List (ℕ × ℕ)) (all : (n : ℕ) → Within n cs) where
+  none_foreign : (l : Log E) → Foreign cs l → l ≡ []
+  none_foreign [] f = refl
+  none_foreign (e ∷ es) f = absurd (f.0 (all e.0))
+
+  pub all_seen : (seen log : Log E) → Ahead cs seen log → log ≡ seen
+  all_seen seen log ahead = ahead.1 ∙ (ap (λ (l : Log E). seen ++ l) (none_foreign ahead.0 ahead.2) ∙ append-nil seen)

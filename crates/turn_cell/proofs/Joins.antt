@@ -5,7 +5,7 @@ use Rattle.std.proofs.lemmas.Bool.{ltb-true, ltb-false, cond-false}
 use Rattle.std.proofs.lemmas.Bool.Decides.{nat_tests}
 use Rattle.std.proofs.lemmas.List.{length-append, append-nil, append_assoc}
 use mathlib.Core.List.{IsPrefix}
-use Rattle.turn_cell.specs.declared.view.Told.TheVariants.{Joined}
+use Rattle.turn_cell.specs.declared.view.JoinPending.TheVariants.{Joined}
 use Rattle.turn_cell.specs.History.{Log, entries_in, Foreign, Ahead, longer}
 use Rattle.turn_cell.specs.View.{Fits}
 use Rattle.turn_cell.proofs.Seats.{foreign_both}

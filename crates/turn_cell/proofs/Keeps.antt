@@ -10,15 +10,15 @@ use mathlib.Core.Option.{some, some-injective, some-ne-none}
 use lib.ListN.{get_elem?}
 use lib.Seq.{set-get_or}
 use Rattle.atomic_table.specs.Table.{State, Me, step, keeps, put_back, takes, gives, opening, Allows}
-use Rattle.atomic_table.proofs.Lists.{at_set}
+use Rattle.atomic_table.proofs.Lists.{at_set, set_here}
 use Rattle.turn_cell.specs.declared.view.Turn.{Turn}
 use Rattle.turn_cell.specs.declared.view.Turn.TheVariants.{Idle, Making, Holds}
-use Rattle.turn_cell.specs.declared.view.Told.TheVariants.{Nothing}
+use Rattle.turn_cell.specs.declared.view.JoinPending.TheVariants.{Nothing}
 use Rattle.turn_cell.specs.declared.view.View.{View}
 use Rattle.turn_cell.specs.Classes.{Within, AreClasses, Apart}
 use Rattle.turn_cell.specs.History.{Log, AtFirsts, Ahead}
 use Rattle.turn_cell.specs.View.{turned, tried, has_seen, newcomer, seat_of, Fits}
-use Rattle.turn_cell.specs.Rule.{odd_of, Sees, IsPart, KnowsTurn, Kept, asked, begun, given_back, ended, looked}
+use Rattle.turn_cell.specs.Rule.{words_with, odd_of, Sees, IsPart, KnowsTurn, Kept, asked, begun, given_back, ended, looked}
 use Rattle.turn_cell.proofs.Seats.{stay, first_within, only_first, only_outside, firsts_snoc, ahead_snoc, ahead_here, firsts_before}
 
 pub or_even : (m : ℕ) → bit_or (2 * m) 1 ≡ 2 * m + 1
@@ -40,10 +40,9 @@ abbrev list_of : {E : Type 0} → Log E → Turn E → Log E
 list_of d (Holds l) = l
 list_of d _ = d
 
-one_slot : {A : Type 0} (hs : List A) (x : A) → length hs ≡ 1 → set hs 0 x ≡ x ∷ []
-one_slot [] x e = absurd (omega arith)
-one_slot (h ∷ []) x e = refl
-one_slot (h ∷ g ∷ hs) x e = absurd (omega arith)
+-- what is put back is at home
+home_again : {A : Type 0} (hs : List A) (x : A) → length hs ≡ 3 → get_elem? (set hs 1 x) 1 ≡ some x
+home_again hs x e = set_here hs 1 x (omega arith)
 
 at_first : {D : Type 0} (d : D) (j : ℕ) (v : D) → get_elem? (d ∷ []) j ≡ some v → (j ≡ 0) × (d ≡ v)
 at_first d zero v e = (refl, some-injective d v e)
@@ -86,8 +85,8 @@ module _ {E P : Type 0} (stands : P → Log E → Type 0) (name_of : P → List 
   module _ (s : St) (r : Rule s) (id : ℕ) (v0 w0 : View E) (at : get_elem? s.views id ≡ some v0) (cs : w0.classes ≡ v0.classes) (sp : w0.gone ≡ v0.gone) where
     -- a step of the seat that holds the turn, or takes it
     rebuilt : (log' : Log E) (holder' : Option ℕ) (ws : List ℕ) (hs : List (maths.Option (Option P)))
-        → (r.holder ≡ None) ⊎ (r.holder ≡ Some id) → ws ≡ (2 * length log' + odd_of holder') ∷ [] → length log' ≤ 2 ^ 62
-        → (holder' ≡ None → (p : P) × (hs ≡ some (Some p) ∷ []) × IsPart stands name_of name log' p)
+        → (r.holder ≡ None) ⊎ (r.holder ≡ Some id) → ws ≡ words_with (2 * length log' + odd_of holder') → length log' ≤ 2 ^ 62
+        → (holder' ≡ None → (p : P) × (get_elem? hs 1 ≡ some (some (Some p))) × IsPart stands name_of name log' p)
         → KnowsTurn stands name_of holder' log' hs id w0.turn
         → (w0.gone ≡ false → Sees name log' w0)
         → ((j : ℕ) (d : View E) → j ≢ id → get_elem? s.views j ≡ some d → d.gone ≡ false → Sees name log' d)
@@ -120,23 +119,23 @@ module _ {E P : Type 0} (stands : P → Log E → Type 0) (name_of : P → List 
     unmoved : w0.turn ≡ Idle → w0.name ≡ v0.name → w0.seen ≡ v0.seen → w0.told ≡ v0.told → Rule record { words = s.words; homes = s.homes; views = set s.views id w0 }
     unmoved idle nm sn tl = shown idle (λ u. same_sight r.log v0 w0 cs nm sn tl (r.sights id v0 at (sym sp ∙ u)))
 
-  pub takes_turn : (slots : ℕ) → slots ≡ 1 → (id : ℕ) (me : Me (Option P) (View E)) → me.0.gone ≡ false → Allows Rule slots id me 0 (λ n. bit_or n 1) (asked stands name_of (step slots 0 1 0 maths.none) me)
-  takes_turn slots one id me fresh s r len at small = let n : ℕ = get_or s.words 0 0 in let L : ℕ = length r.log in let see = r.sights id me.0 at fresh in
-      let n_is : n ≡ 2 * L + odd_of r.holder = ap (λ ws. get_or ws 0 0) r.word in
-      let set_is : (k : ℕ) → set s.words 0 k ≡ k ∷ [] = λ k. ap (λ ws. set ws 0 k) r.word in
+  pub takes_turn : (slots : ℕ) → slots ≡ 3 → (id : ℕ) (me : Me (Option P) (View E)) → me.0.gone ≡ false → Allows Rule slots id me 16 (λ n. bit_or n 1) (asked stands name_of (step slots 16 1 0 maths.none) me)
+  takes_turn slots one id me fresh s r len at small = let n : ℕ = get_or s.words 16 0 in let L : ℕ = length r.log in let see = r.sights id me.0 at fresh in
+      let n_is : n ≡ 2 * L + odd_of r.holder = ap (λ ws. get_or ws 16 0) r.word in
+      let set_is : (k : ℕ) → set s.words 16 k ≡ words_with k = λ k. ap (λ ws. set ws 16 k) r.word in
       elim (holder_cases r.holder) [
         | inl free ↦ let h = r.home free in let even : n ≡ 2 * L = n_is ∙ (ap (λ o. 2 * L + odd_of o) free ∙ omega arith) in
             let w : View E = tried n (Holds r.log) me.0 in (
               w,
-              takes 0 (Some h.0),
-              ap (λ hs. get_elem? hs 0) h.1,
-              rebuilt s r id me.0 w at refl refl r.log (Some id) _ _ (inl free) (set_is (bit_or n 1) ∙ ap (λ (k : ℕ). k ∷ []) (ap (λ (k : ℕ). bit_or k 1) even ∙ or_even L)) r.short (λ e. absurd (none-some id (sym e))) (refl, refl)
+              takes 1 (Some h.0),
+              h.1,
+              rebuilt s r id me.0 w at refl refl r.log (Some id) _ _ (inl free) (set_is (bit_or n 1) ∙ ap words_with (ap (λ (k : ℕ). bit_or k 1) even ∙ or_even L)) r.short (λ e. absurd (none-some id (sym e))) (refl, refl)
                   (λ _. see) (λ j d _. r.sights j d),
               inr (r.log, h.0, even, r.short, refl, refl, (h.2.0, h.2.1 ∙ sym see.0), see.2, see.1),
             )
         | inr held ↦ let odd : n ≡ 2 * L + 1 = n_is ∙ ap (λ o. 2 * L + odd_of o) held.1 in
             let w : View E = tried n Idle me.0 in
-            let same : set s.words 0 (bit_or n 1) ≡ s.words = set_is (bit_or n 1) ∙ (ap (λ (k : ℕ). k ∷ []) (ap (λ (k : ℕ). bit_or k 1) odd ∙ (or_odd L ∙ (sym odd ∙ n_is))) ∙ sym r.word) in (
+            let same : set s.words 16 (bit_or n 1) ≡ s.words = set_is (bit_or n 1) ∙ (ap words_with (ap (λ (k : ℕ). bit_or k 1) odd ∙ (or_odd L ∙ (sym odd ∙ n_is))) ∙ sym r.word) in (
               w,
               keeps,
               tt,
@@ -145,27 +144,27 @@ module _ {E P : Type 0} (stands : P → Log E → Type 0) (name_of : P → List 
             )
       ]
 
-  pub gives_back : (slots : ℕ) → slots ≡ 1 → (id : ℕ) (me : Me (Option P) (View E)) (l : Log E) (p : P) → me.0.turn ≡ Holds l → me.0.gone ≡ false → me.1 ≡ (0, Some p) ∷ [] → IsPart stands name_of me.0.name l p
-      → Allows Rule slots id me 0 (λ n. (n + (2 ^ 64 - 1)) % 2 ^ 64) (given_back (step slots 0 1 0 maths.none) me)
-  gives_back slots one id me l p holds fresh out part s r len at small = let n : ℕ = get_or s.words 0 0 in let L : ℕ = length r.log in let see = r.sights id me.0 at fresh in
+  pub gives_back : (slots : ℕ) → slots ≡ 3 → (id : ℕ) (me : Me (Option P) (View E)) (l : Log E) (p : P) → me.0.turn ≡ Holds l → me.0.gone ≡ false → me.1 ≡ (1, Some p) ∷ [] → IsPart stands name_of me.0.name l p
+      → Allows Rule slots id me 16 (λ n. (n + (2 ^ 64 - 1)) % 2 ^ 64) (given_back (step slots 16 1 0 maths.none) me)
+  gives_back slots one id me l p holds fresh out part s r len at small = let n : ℕ = get_or s.words 16 0 in let L : ℕ = length r.log in let see = r.sights id me.0 at fresh in
       let kt = subst (KnowsTurn stands name_of r.holder r.log s.homes id) holds (r.turns id me.0 at) in
-      let n_is : n ≡ 2 * L + 1 = ap (λ ws. get_or ws 0 0) r.word ∙ ap (λ o. 2 * L + odd_of o) kt.0 in
+      let n_is : n ≡ 2 * L + 1 = ap (λ ws. get_or ws 16 0) r.word ∙ ap (λ o. 2 * L + odd_of o) kt.0 in
       let short : L ≤ 2 ^ 62 = r.short in
       let w : View E = turned Idle me.0 in (
         w,
         gives,
         tt,
-        rebuilt s r id me.0 w at refl refl r.log None _ _ (inr kt.0) (ap (λ ws. set ws 0 ((n + (2 ^ 64 - 1)) % 2 ^ 64)) r.word ∙ ap (λ (k : ℕ). k ∷ []) (omega arith)) r.short
-            (λ _. (p, ap (λ c. put_back s.homes c) out ∙ one_slot s.homes (some (Some p)) (len ∙ one), (subst (stands p) kt.1 part.0, part.1 ∙ see.0))) tt (λ _. see) (λ j d _. r.sights j d),
+        rebuilt s r id me.0 w at refl refl r.log None _ _ (inr kt.0) (ap (λ ws. set ws 16 ((n + (2 ^ 64 - 1)) % 2 ^ 64)) r.word ∙ ap words_with (omega arith)) r.short
+            (λ _. (p, ap (λ c. get_elem? (put_back s.homes c) 1) out ∙ home_again s.homes (some (Some p)) (len ∙ one), (subst (stands p) kt.1 part.0, part.1 ∙ see.0))) tt (λ _. see) (λ j d _. r.sights j d),
         (refl, refl),
       )
 
-  pub ends : (slots : ℕ) → slots ≡ 1 → (id : ℕ) (me : Me (Option P) (View E)) (l : Log E) (p : P) (e : E) (item : Option E) → me.0.turn ≡ Holds l → me.0.gone ≡ false → me.1 ≡ (0, Some p) ∷ [] → me.0.classes ≢ [] → item ≡ Some e → length l < 2 ^ 62
+  pub ends : (slots : ℕ) → slots ≡ 3 → (id : ℕ) (me : Me (Option P) (View E)) (l : Log E) (p : P) (e : E) (item : Option E) → me.0.turn ≡ Holds l → me.0.gone ≡ false → me.1 ≡ (1, Some p) ∷ [] → me.0.classes ≢ [] → item ≡ Some e → length l < 2 ^ 62
       → IsPart stands name_of me.0.name (l ++ (seat_of me.0, e) ∷ []) p
-      → Allows Rule slots id me 0 (λ n. (n + 1) % 2 ^ 64) (ended item (step slots 0 1 0 maths.none) me)
-  ends slots one id me l p e item holds fresh out full said short part s r len at small = let n : ℕ = get_or s.words 0 0 in let see = r.sights id me.0 at fresh in
+      → Allows Rule slots id me 16 (λ n. (n + 1) % 2 ^ 64) (ended item (step slots 16 1 0 maths.none) me)
+  ends slots one id me l p e item holds fresh out full said short part s r len at small = let n : ℕ = get_or s.words 16 0 in let see = r.sights id me.0 at fresh in
       let kt = subst (KnowsTurn stands name_of r.holder r.log s.homes id) holds (r.turns id me.0 at) in
-      let n_is : n ≡ 2 * length l + 1 = ap (λ ws. get_or ws 0 0) r.word ∙ (λ i. 2 * length (sym kt.1 i) + odd_of (kt.0 i)) in
+      let n_is : n ≡ 2 * length l + 1 = ap (λ ws. get_or ws 16 0) r.word ∙ (λ i. 2 * length (sym kt.1 i) + odd_of (kt.0 i)) in
       let x : ℕ × E = (seat_of me.0, e) in let log' : Log E = l ++ x ∷ [] in
       let long : length log' ≡ length l + 1 = length-append l (x ∷ []) in
       let inside : Within x.0 me.0.classes = first_within me.0.classes full see.1 in
@@ -173,31 +172,31 @@ module _ {E P : Type 0} (stands : P → Log E → Type 0) (name_of : P → List 
         w,
         gives,
         tt,
-        rebuilt s r id me.0 w at refl refl log' None _ _ (inr kt.0) (ap (λ ws. set ws 0 ((n + 1) % 2 ^ 64)) r.word ∙ ap (λ (k : ℕ). k ∷ []) (omega arith)) (omega arith)
-            (λ _. (p, ap (λ c. put_back s.homes c) out ∙ one_slot s.homes (some (Some p)) (len ∙ one), (part.0, part.1 ∙ see.0))) tt
+        rebuilt s r id me.0 w at refl refl log' None _ _ (inr kt.0) (ap (λ ws. set ws 16 ((n + 1) % 2 ^ 64)) r.word ∙ ap words_with (omega arith)) (omega arith)
+            (λ _. (p, ap (λ c. get_elem? (put_back s.homes c) 1) out ∙ home_again s.homes (some (Some p)) (len ∙ one), (part.0, part.1 ∙ see.0))) tt
             (λ _. (see.0, see.1, ahead_here me.0.classes log', subst (λ (k : Log E). AtFirsts me.0.classes (k ++ x ∷ [])) (sym kt.1) (firsts_snoc me.0.classes r.log x see.3 (only_first me.0.classes see.1)), see.4))
             (λ j d ne there u. let k = r.sights j d there u in let apart : ¬ (Within x.0 d.classes) = λ h. r.apart j id d me.0 ne there at u fresh x.0 h inside in
             subst (λ (y : Log E). Sees name (y ++ x ∷ []) d) (sym kt.1) (k.0, k.1, ahead_snoc d.classes d.seen r.log x k.2 apart, firsts_snoc d.classes r.log x k.3 (only_outside x.0 d.classes apart), k.4)),
         λ l' e' h' said'. (ap (λ (y : ℕ × (Log E × E)). has_seen (y.1.0 ++ (seat_of me.0, y.1.1) ∷ []) me.0) (λ i. (0, (ap (list_of l) (sym holds ∙ h') i, same_Some e e' (sym said ∙ said') i))), refl),
       )
 
-  pub begins : (slots : ℕ) → slots ≡ 1 → (id : ℕ) (me : Me (Option P) (View E)) → me.0.turn ≡ Making → me.0.gone ≡ false → Allows Rule slots id me 0 (λ n. n) (begun (step slots 0 0 0 maths.none) me)
-  begins slots one id me making fresh s r len at small = let n : ℕ = get_or s.words 0 0 in
+  pub begins : (slots : ℕ) → slots ≡ 3 → (id : ℕ) (me : Me (Option P) (View E)) → me.0.turn ≡ Making → me.0.gone ≡ false → Allows Rule slots id me 16 (λ n. n) (begun (step slots 16 0 0 maths.none) me)
+  begins slots one id me making fresh s r len at small = let n : ℕ = get_or s.words 16 0 in
       let kt = subst (KnowsTurn stands name_of r.holder r.log s.homes id) making (r.turns id me.0 at) in
       let see = r.sights id me.0 at fresh in
       let w : View E = turned (Holds []) me.0 in (
         w,
-        takes 0 None,
-        ap (λ hs. get_elem? hs 0) kt.2,
-        rebuilt s r id me.0 w at refl refl r.log r.holder _ _ (inr kt.0) (ap (λ ws. set ws 0 (get_or ws 0 0)) r.word) r.short (λ e. absurd (none-some id (sym e ∙ kt.0))) (kt.0, sym kt.1) (λ _. see) (λ j d _. r.sights j d),
+        takes 1 None,
+        kt.2,
+        rebuilt s r id me.0 w at refl refl r.log r.holder _ _ (inr kt.0) (ap (λ ws. set ws 16 (get_or ws 16 0)) r.word) r.short (λ e. absurd (none-some id (sym e ∙ kt.0))) (kt.0, sym kt.1) (λ _. see) (λ j d _. r.sights j d),
         (refl, refl),
       )
 
-  pub looks : (slots : ℕ) → (id : ℕ) (me : Me (Option P) (View E)) → me.0.turn ≡ Idle → me.0.gone ≡ false → Allows Rule slots id me 0 (λ n. n) (looked (step slots 0 0 0 maths.none) me)
-  looks slots id me idle fresh s r len at small = let n : ℕ = get_or s.words 0 0 in let see = r.sights id me.0 at fresh in
-      let n_is : n ≡ 2 * length r.log + odd_of r.holder = ap (λ ws. get_or ws 0 0) r.word in
+  pub looks : (slots : ℕ) → (id : ℕ) (me : Me (Option P) (View E)) → me.0.turn ≡ Idle → me.0.gone ≡ false → Allows Rule slots id me 16 (λ n. n) (looked (step slots 16 0 0 maths.none) me)
+  looks slots id me idle fresh s r len at small = let n : ℕ = get_or s.words 16 0 in let see = r.sights id me.0 at fresh in
+      let n_is : n ≡ 2 * length r.log + odd_of r.holder = ap (λ ws. get_or ws 16 0) r.word in
       let w : View E = record me.0 { told = Nothing } in
-      let same : set s.words 0 n ≡ s.words = set-get_or s.words 0 0 in (
+      let same : set s.words 16 n ≡ s.words = set-get_or s.words 16 0 in (
         w,
         keeps,
         tt,
@@ -206,14 +205,14 @@ module _ {E P : Type 0} (stands : P → Log E → Type 0) (name_of : P → List 
       )
 
   -- the table at the start: the first seat has the turn, and no part is in the slot
-  pub starts : Rule (opening (1 ∷ []) (None ∷ []) (newcomer name))
+  pub starts : Rule (opening (words_with 1) (None ∷ None ∷ None ∷ []) (newcomer name))
   starts = record {
     log = [];
     holder = Some 0;
     word = refl;
     short = omega arith;
     home = λ e. absurd (none-some 0 (sym e));
-    turns = λ j v e. (let h = at_first (newcomer name) j v e in subst (λ (x : ℕ × View E). KnowsTurn stands name_of (Some 0) [] (some None ∷ []) x.0 x.1.turn) (λ i. (sym h.0 i, h.1 i)) (refl, refl, refl));
+    turns = λ j v e. (let h = at_first (newcomer name) j v e in subst (λ (x : ℕ × View E). KnowsTurn stands name_of (Some 0) [] (some None ∷ some None ∷ some None ∷ []) x.0 x.1.turn) (λ i. (sym h.0 i, h.1 i)) (refl, refl, refl));
     sights = λ j v e _. (let h = at_first (newcomer name) j v e in subst (Sees name []) h.1 (refl, ((omega arith), (λ n _ w. w), tt), ([], refl, tt), tt, tt));
     apart = λ i j v w ne ei ej _ _. absurd (ne ((at_first (newcomer name) i v ei).0 ∙ sym (at_first (newcomer name) j w ej).0));
   }

@@ -9,24 +9,23 @@ use Rattle.turn_cell.specs.declared.view.View.{View}
 use Rattle.turn_cell.specs.History.{Log}
 use Rattle.turn_cell.specs.View.{has_seen, seat_of, tried}
 use Rattle.turn_cell.specs.Rule.{HasAsked, HasTaken, IsAtRest}
-use Rattle.turn_cell.specs.Turns.{IsHeld}
+use Rattle.turn_cell.specs.Held.{IsHeld}
 
 module _ {P : Type 0} where
   abbrev lead : Option P → List (ℕ × Option P) → Option P
   lead d [] = d
   lead d (x ∷ xs) = x.1
 
-  pub alone : (m : List (ℕ × Option P)) (o : Option P) → m ≡ (0, o) ∷ [] → m ≡ (0, o) ∷ rest m
-  alone m o e = e ∙ ap (λ (z : List (ℕ × Option P)). (0, o) ∷ z) (sym (ap rest e))
+  pub alone : (m : List (ℕ × Option P)) (o : Option P) → m ≡ (1, o) ∷ [] → m ≡ (1, o) ∷ rest m
+  alone m o e = e ∙ ap (λ (z : List (ℕ × Option P)). (1, o) ∷ z) (sym (ap rest e))
 
-  pub same_part : (m : List (ℕ × Option P)) (p q : P) (o : Option P) → m ≡ (0, Some p) ∷ [] → m ≡ (0, o) ∷ rest m → o ≡ Some q → p ≡ q
-  same_part m p q o e f g = same_Some p q (ap (lead o) (sym e ∙ f) ∙ g)
+  -- the slot that is lent has the part
+  pub lent : (m : List (ℕ × Option P)) (p : P) (o : Option P) → m ≡ (1, Some p) ∷ [] → m ≡ (1, o) ∷ rest m → o ≡ Some p
+  lent m p o e f = ap (lead o) (sym f ∙ e)
 
-module _ {E P : Type 0} where
-  -- the slot was read and written twice
-  pub after_two : (m : Me (Option P) (View E)) (o x : Option P) (m' : Me (Option P) (View E)) (y : Option P) → m.1 ≡ (0, o) ∷ [] → m' ≡ (m.0, (0, x) ∷ rest m.1)
-      → ◌≡◌ {A = Me (Option P) (View E)} (m'.0, (0, y) ∷ rest m'.1) (m.0, (0, y) ∷ [])
-  after_two m o x m' y e f = λ i. ((f i).0, (0, y) ∷ (ap (λ (z : Me (Option P) (View E)). rest z.1) f ∙ ap rest e) i)
+  -- and has what was written there once it is back
+  pub lent_back : (m : List (ℕ × Option P)) (p q : P) (o : Option P) → m ≡ (1, Some p) ∷ [] → o ≡ Some q → (1, o) ∷ rest m ≡ (1, Some q) ∷ []
+  lent_back m p q o e f = λ i. (1, f i) ∷ ap rest e i
 
 module _ {E : Type 0} where
   abbrev held_of : Log E → Turn E → Log E
@@ -51,7 +50,7 @@ module _ {E P : Type 0} (stands : P → Log E → Type 0) (name_of : P → List 
     t.0,
     t.1,
     ap (λ (v : View E). v.turn) t.4,
-    t.5 ∙ ap (λ (xs : List (ℕ × Option P)). (0, Some t.1) ∷ xs) at.1,
+    t.5 ∙ ap (λ (xs : List (ℕ × Option P)). (1, Some t.1) ∷ xs) at.1,
     (t.6.0, t.6.1 ∙ sym (ap (λ (v : View E). v.name) t.4)),
     (let d : length t.0 ≢ 2 ^ 62 = λ h. less (omega arith) in omega arith),
     ap (λ (v : View E). v.gone) t.4 ∙ at.3,

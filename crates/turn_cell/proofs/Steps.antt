@@ -3,7 +3,7 @@ use Rattle.std.proofs.Common.{◌≡◌, ◌≢◌, ℕ, ◌+◌, ◌*◌, ◌/�
 use Rattle.std.specs.Prelude.{◌==◌, ◌||◌}
 use Rattle.std.proofs.lemmas.Bool.{or_right, eq-eqb, ne_eqb}
 use Rattle.turn_cell.specs.declared.view.Turn.TheVariants.{Idle, Holds}
-use Rattle.turn_cell.specs.declared.view.Told.TheVariants.{Nothing}
+use Rattle.turn_cell.specs.declared.view.JoinPending.TheVariants.{Nothing}
 use Rattle.turn_cell.specs.declared.view.View.{View}
 use Rattle.turn_cell.specs.Weights.{weigh}
 use Rattle.turn_cell.specs.Classes.{AreClasses, count_in, first_of}

@@ -1,4 +1,4 @@
--- What the calls on a turn cell say, over what their passes know before and after.
+-- To be believed: what the calls on a turn cell say, over what their passes know before and after.
 use Rattle.std.specs.Prelude.{◌≡◌, ℕ, ◌+◌, ◌*◌, ◌/◌, ◌%◌, ◌^◌, ◌<◌, List, [], ◌∷◌, ◌++◌, length, true}
 use mathlib.Core.List.{IsPrefix}
 use Rattle.turn_cell.specs.declared.view.Turn.TheVariants.{Idle}
@@ -60,8 +60,7 @@ module _ {E : Type 0} where
     pub counts : (n : ℕ) → count_in n w.classes ≡ count_in n v.classes + count_in n o.classes
 
   module _ {P : Type 0} (stands : P → Log E → Type 0) (name_of : P → List ℕ) where
-    -- A call was entered. What the pass then has seen begins with all that it had seen and ends with the entry, under the pass's seat; between are entries of other seats alone. So of the pass's own entries it alone is new.
-    -- The last word found was twice the entries before it, and the part stands for this history
+    -- A call was entered. What the pass then has seen begins with all that it had seen and ends with the entry, under the pass's seat; between are entries of other seats alone. So of the pass's own entries it alone is new. The last word found was twice the entries before it, and the part stands for this history
     pub record Entered (e : E) (v w : View E) : Type 0 where
       pub between : Log E
       pub seen : w.seen ≡ (v.seen ++ between) ++ (seat_of v, e) ∷ []
@@ -93,14 +92,14 @@ module _ {E : Type 0} where
       pub ahead : Ahead v.classes v.seen log
       pub is_part : IsPart stands name_of v.name log p
 
-    module _ {C R : Type 0} (entry : C → R → E) where
-      -- what each answer of one try says: one `fetch_or` was made, and the call was entered, or handed back where that found the turn held or the history at its longest
+    module _ {C R : Type 0} (entry : C → R → E) (answers : C → R → Type 0) where
+      -- what each answer of one try says: one `fetch_or` was made, and the call was entered and the reply answers it, or it was handed back where that found the turn held or the history at its longest
       abbrev pub IsStep : C → View E → Tried P C R E → View E → Type 0
-      IsStep call v (Done reply) w = Entered (entry call reply) v w × (w.tries ≡ v.tries + 1)
+      IsStep call v (Done reply) w = Entered (entry call reply) v w × (w.tries ≡ v.tries + 1) × answers call reply
       IsStep call v (Busy count back) w = (back ≡ call) × (count ≡ w.found / 2) × IsRefused v w
       IsStep call v (Spent back) w = (back ≡ call) × WasSpent v w × (w.tries ≡ v.tries + 1)
 
       -- the same of one that waits for its turn, by one `fetch_or` or more
       abbrev pub HasStepped : C → View E → Stepped P C R E → View E → Type 0
-      HasStepped call v (Whole.Done reply) w = Entered (entry call reply) v w × (v.tries < w.tries)
+      HasStepped call v (Whole.Done reply) w = Entered (entry call reply) v w × (v.tries < w.tries) × answers call reply
       HasStepped call v (Whole.Spent back) w = (back ≡ call) × WasSpent v w × (v.tries < w.tries)

@@ -1,4 +1,4 @@
--- Histories, and what of a history belongs to classes of seats.
+-- To be believed: histories, and what of a history belongs to classes of seats.
 use Rattle.std.specs.Prelude.{◌≡◌, ℕ, List, [], ◌∷◌, ◌++◌, length, filter, nat_lt, if◌then◌else◌}
 use Rattle.turn_cell.specs.Classes.{Within, within, OnlyFirsts}
 

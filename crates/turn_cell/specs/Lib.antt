@@ -3,6 +3,6 @@ pub mod Classes
 pub mod History
 pub mod View
 pub mod Rule
-pub mod Turns
+pub mod Held
 pub mod Calls
 pub mod Counts

@@ -1,11 +1,11 @@
--- The rule of a turn cell's table, and what each kind of atomic step tells.
-use Rattle.std.specs.Prelude.{◌≡◌, ◌≢◌, ℕ, ◌+◌, ◌*◌, ◌%◌, ◌^◌, ◌≤◌, ◌⊎◌, ◌/◌, List, [], ◌∷◌, ◌++◌, length, false, Option, Some, None}
+-- Inner: the rule of a turn cell's table, and what each kind of atomic step tells.
+use Rattle.std.specs.Prelude.{◌≡◌, ◌≢◌, ℕ, ◌+◌, ◌*◌, ◌%◌, ◌^◌, ◌≤◌, ◌⊎◌, ◌/◌, List, [], ◌∷◌, ◌++◌, length, replicate, false, Option, Some, None}
 use mathlib.Core.Option as maths
 use lib.ListN.{get_elem?}
 use Rattle.atomic_table.specs.Table.{State, Me, Step, rest}
 use Rattle.turn_cell.specs.declared.view.Turn.{Turn}
 use Rattle.turn_cell.specs.declared.view.Turn.TheVariants.{Idle, Making, Holds}
-use Rattle.turn_cell.specs.declared.view.Told.TheVariants.{Nothing}
+use Rattle.turn_cell.specs.declared.view.JoinPending.TheVariants.{Nothing}
 use Rattle.turn_cell.specs.declared.view.View.{View}
 use Rattle.turn_cell.specs.Classes.{AreClasses, Apart}
 use Rattle.turn_cell.specs.History.{Log, Ahead, AtFirsts}
@@ -15,6 +15,10 @@ use Rattle.turn_cell.specs.View.{seat_of, turned, tried, has_seen, Fits}
 abbrev pub odd_of : Option ℕ → ℕ
 odd_of None = 0
 odd_of (Some j) = 1
+
+-- the words of the table: the cell's own is the one at place 16 of 32, so that each side of it is apart from other memory by a line of the processor's cache and more
+abbrev pub words_with : ℕ → List ℕ
+words_with n = replicate 16 0 ++ n ∷ replicate 15 0
 
 module _ {E : Type 0} where
   -- what a pass knows is so: its part's name, a beginning of the history with nothing of its own behind it, and its own entries at its firsts
@@ -29,24 +33,23 @@ module _ {E : Type 0} where
     -- what a pass knows of the turn is so
     abbrev pub KnowsTurn : Option ℕ → Log E → List (maths.Option (Option P)) → ℕ → Turn E → Type 0
     KnowsTurn holder log homes id Idle = Unit {0}
-    KnowsTurn holder log homes id Making = (holder ≡ Some id) × (log ≡ []) × (homes ≡ maths.some None ∷ [])
+    KnowsTurn holder log homes id Making = (holder ≡ Some id) × (log ≡ []) × (get_elem? homes 1 ≡ maths.some (maths.some None))
     KnowsTurn holder log homes id (Holds l) = (holder ≡ Some id) × (l ≡ log)
 
-    -- The rule. The word is twice the length of the history, and one more while a pass holds the turn. While none does, the part is in the slot and stands for the history.
-    -- What each pass knows is so, and no seat is of two passes
+    -- The rule. The word is twice the length of the history, and one more while a pass holds the turn. While none does, the part is in the slot and stands for the history. What each pass knows is so, and no seat is of two passes
     pub record Kept (name : List ℕ) (s : State (Option P) (View E)) : Type 0 where
       pub log : Log E
       pub holder : Option ℕ
-      pub word : s.words ≡ (2 * length log + odd_of holder) ∷ []
+      pub word : s.words ≡ words_with (2 * length log + odd_of holder)
       pub short : length log ≤ 2 ^ 62
-      pub home : holder ≡ None → (p : P) × (s.homes ≡ maths.some (Some p) ∷ []) × IsPart name log p
+      pub home : holder ≡ None → (p : P) × (get_elem? s.homes 1 ≡ maths.some (maths.some (Some p))) × IsPart name log p
       pub turns : (j : ℕ) (v : View E) → get_elem? s.views j ≡ maths.some v → KnowsTurn holder log s.homes j v.turn
       pub sights : (j : ℕ) (v : View E) → get_elem? s.views j ≡ maths.some v → v.gone ≡ false → Sees name log v
       pub apart : (i j : ℕ) (v w : View E) → i ≢ j → get_elem? s.views i ≡ maths.some v → get_elem? s.views j ≡ maths.some w → v.gone ≡ false → w.gone ≡ false → Apart v.classes w.classes
 
     -- the pass took the turn of a history l whose part is p
     abbrev pub HasTaken : Me (Option P) (View E) → ℕ → Me (Option P) (View E) → Type 0
-    HasTaken m n m' = (l : Log E) × (p : P) × (n ≡ 2 * length l) × (length l ≤ 2 ^ 62) × (m'.0 ≡ tried n (Holds l) m.0) × (m'.1 ≡ (0, Some p) ∷ m.1) × IsPart m.0.name l p × Ahead m.0.classes m.0.seen l × AreClasses m.0.classes
+    HasTaken m n m' = (l : Log E) × (p : P) × (n ≡ 2 * length l) × (length l ≤ 2 ^ 62) × (m'.0 ≡ tried n (Holds l) m.0) × (m'.1 ≡ (1, Some p) ∷ m.1) × IsPart m.0.name l p × Ahead m.0.classes m.0.seen l × AreClasses m.0.classes
 
     -- the turn was asked for, and is held where the word was even
     abbrev pub HasAsked : Me (Option P) (View E) → ℕ → Me (Option P) (View E) → Type 0
@@ -68,7 +71,7 @@ module _ {E : Type 0} where
   module _ {P : Type 0} where
     -- a load by the pass that makes a cell: the slot, which has no part yet, is taken
     abbrev pub begun : Step (Option P) → Me (Option P) (View E) → ℕ → Me (Option P) (View E) → Type 0
-    begun st m n m' = (m'.0 ≡ turned (Holds []) m.0) × (m'.1 ≡ (0, None) ∷ m.1)
+    begun st m n m' = (m'.0 ≡ turned (Holds []) m.0) × (m'.1 ≡ (1, None) ∷ m.1)
 
     -- a `fetch_sub`: the turn was given back, with nothing added
     abbrev pub given_back : Step (Option P) → Me (Option P) (View E) → ℕ → Me (Option P) (View E) → Type 0

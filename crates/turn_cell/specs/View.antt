@@ -1,9 +1,9 @@
--- What a pass knows, and what each call makes of it.
+-- To be believed: what a pass knows, and what each call makes of it.
 use Rattle.std.specs.Prelude.{ℕ, ◌+◌, ◌^◌, ◌⊎◌, ◌||◌, ◌==◌, List, [], ◌∷◌, ◌++◌, true, false}
 use Rattle.turn_cell.specs.declared.view.Turn.{Turn}
 use Rattle.turn_cell.specs.declared.view.Turn.TheVariants.{Idle, Making}
-use Rattle.turn_cell.specs.declared.view.Told.{Told}
-use Rattle.turn_cell.specs.declared.view.Told.TheVariants.{Nothing, Joined}
+use Rattle.turn_cell.specs.declared.view.JoinPending.{JoinPending}
+use Rattle.turn_cell.specs.declared.view.JoinPending.TheVariants.{Nothing, Joined}
 use Rattle.turn_cell.specs.declared.view.View.{View}
 use Rattle.turn_cell.specs.Classes.{first_of, halved, other_half}
 use Rattle.turn_cell.specs.History.{Log, entries_in, Ahead, longer}
@@ -23,7 +23,7 @@ module _ {E : Type 0} where
 
   -- one `fetch_or` more was made, and found this word
   abbrev pub tried : ℕ → Turn E → View E → View E
-  tried n t v = record { name = v.name; seen = v.seen; classes = v.classes; tries = v.tries + 1; found = n; met_spent = v.met_spent || (n == 2 ^ 63); turn = t; told = v.told; gone = v.gone }
+  tried n t v = record v { tries = v.tries + 1; found = n; met_spent = v.met_spent || (n == 2 ^ 63); turn = t }
 
   -- this history was seen, and the turn is held no more
   abbrev pub has_seen : Log E → View E → View E
@@ -43,11 +43,11 @@ module _ {E : Type 0} where
 
   -- what is split off it: what it has seen, the other half of its first class, and no `fetch_or`
   abbrev pub right_of : View E → View E
-  right_of v = record { name = v.name; seen = v.seen; classes = other_half v.classes; tries = 0; found = 0; met_spent = false; turn = Idle; told = Nothing; gone = false }
+  right_of v = record (first_view v.name) { seen = v.seen; classes = other_half v.classes }
 
   -- two passes joined: the longer of what they had seen, and the classes of both
   abbrev pub joined_of : View E → View E → View E
-  joined_of v w = record { name = v.name; seen = longer v.seen w.seen; classes = v.classes ++ w.classes; tries = v.tries + w.tries; found = v.found; met_spent = v.met_spent || w.met_spent; turn = v.turn; told = Nothing; gone = v.gone }
+  joined_of v w = record v { seen = longer v.seen w.seen; classes = v.classes ++ w.classes; tries = v.tries + w.tries; met_spent = v.met_spent || w.met_spent; told = Nothing }
 
   -- the same, as long as it is to be told how the two stood to each other
   abbrev pub both_of : View E → View E → View E
@@ -55,9 +55,9 @@ module _ {E : Type 0} where
 
   -- the pass was joined into another
   abbrev pub gone_view : View E
-  gone_view = record { name = []; seen = []; classes = []; tries = 0; found = 0; met_spent = false; turn = Idle; told = Nothing; gone = true }
+  gone_view = record (first_view []) { classes = []; gone = true }
 
   -- of two passes that were joined, one had seen the beginning of what the other had, and nothing of its own was behind that
-  abbrev pub Fits : Told E → Type 0
+  abbrev pub Fits : JoinPending E → Type 0
   Fits Nothing = Unit {0}
   Fits (Joined xs cs ys ds) = Ahead ds ys xs ⊎ Ahead cs xs ys

@@ -1,9 +1,11 @@
-// What a turn cell guards. A part is a value with one kind of call, and contracts know it by a relation between it and the calls that were made on it.
+//! What a turn cell guards. A part is a value with one kind of call, and contracts know it by a relation
+//! between it and the calls that were made on it.
 ghost use Rattle.std.specs.Prelude.{◌≡◌, ◌<◌, ◌^◌, ℕ, List, [], ◌∷◌, ◌++◌, length};
 
 /// A value that calls are applied to, one after the other.
 ///
-/// A part stores no list of its calls, and a seat is no value of the program: both are known to contracts alone.
+/// A part stores no list of its calls, and a seat is no value of the program: both are known to contracts
+/// alone.
 pub trait Part: Drop {
     /// What is asked. A call that is refused is handed back.
     type Call;
@@ -26,14 +28,20 @@ pub trait Part: Drop {
     // The plain content of a call and its reply.
     ghost entry: { Self.Call → Self.Reply → Self.Entry };
 
+    // How a reply belongs to its call, beyond what the entry shows of the two: what is handed back is the
+    // very value that came, and not one of the same content.
+    ghost answers: { Self.Call → Self.Reply → Type 0 };
+
     /// Answers one call.
     ///
-    /// It may count on fewer than 2^62 entries so far, so that a counter of its calls can't wrap.
-    /// From whatever list the part stood for, and under whatever seat, it then stands for that list and this one entry.
+    /// It may count on fewer than 2^62 entries so far, so that a counter of its calls can't wrap. From
+    /// whatever list the part stood for, and under whatever seat, it then stands for that list and this one
+    /// entry.
     fn apply(&mut self, call: Self::Call) -> Self::Reply
         requires may { may (name self.old) call }
         requires short { (h : List (ℕ × Self.Entry)) × stands self.old h × (length h < 2 ^ 62) }
         ensures name { name self.new ≡ name self.old }
+        ensures answers { answers call result }
         ensures step { (h : List (ℕ × Self.Entry)) (seat : ℕ) →
             stands self.old h → stands self.new (h ++ (seat, entry call result) ∷ []) };
 }

@@ -1,4 +1,4 @@
-// What calls on a cell are made with, and what they answer.
+//! What calls on a cell are made with, and what they answer.
 ghost use Rattle.turn_cell.specs.Rule.{IsAtRest};
 
 use crate::part::Part;

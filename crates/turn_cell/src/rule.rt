@@ -1,6 +1,9 @@
-// The rule of a turn cell's table, which holds between any two steps of any threads.
-//
-// The table has one word and one slot. There is one list of entries, which no memory has: the part stands for it, and what each pass has seen begins it. At most one pass holds the turn. The word is twice the length of the list, plus one while the turn is held, and while nobody holds it the part is in the slot.
+//! The rule of a turn cell's table, which holds between any two steps of any threads.
+//!
+//! One word and one slot of the table are the cell's; the others lie round them and never change. There is
+//! one list of entries, which no memory has: the part stands for it, and what each pass has seen begins it.
+//! At most one pass holds the turn. The word is twice the length of the list, plus one while the turn is
+//! held, and while nobody holds it the part is in the slot.
 ghost use Rattle.turn_cell.specs.Rule.{Kept};
 ghost use Rattle.turn_cell.specs.View.{newcomer};
 

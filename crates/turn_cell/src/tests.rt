@@ -1,4 +1,4 @@
-// Cells round two small parts, on one thread and on several.
+//! Cells round three small parts, on one thread and on several.
 ghost use Rattle.std.specs.Prelude.{◌≡◌, [], All, IfOk};
 ghost use Rattle.turn_cell.specs.Counts.{CountsTo};
 ghost use Rattle.turn_cell.specs.Calls.{IsOf};
@@ -38,6 +38,8 @@ impl Part for Counter {
     ghost may = { λ n call. Unit {0} };
 
     ghost entry = { λ call reply. (call, reply) };
+
+    ghost answers = { λ call reply. Unit {0} };
 
     fn apply(&mut self, call: u64) -> u64 {
         self.count = self.count.wrapping_add(call);
@@ -167,6 +169,8 @@ impl Part for Gate {
 
     ghost entry = { λ call reply. reply };
 
+    ghost answers = { λ call reply. Unit {0} };
+
     fn apply(&mut self, _call: ()) -> bool {
         self.begun.store(true, Ordering::SeqCst);
         comes(&self.open)
@@ -246,5 +250,62 @@ fn a_try_while_the_turn_is_held_is_busy(rt: HostRuntime) -> Result<(), Fail> {
     let other = cell.split(&mut pass)?;
     let (held, busy) = hold_and_disturb(&rt, &cell, pass, other, &begun, &open);
     assert_eq!(rt; (held, busy), (true, true));
+    Ok(())
+}
+
+/// A note of some value. Two notes of one value are told apart by their serial numbers.
+#[derive(Drop)]
+struct Banknote {
+    value: u64,
+    serial: u64,
+}
+
+/// A part that takes no note, and hands back what came. Its history shows values alone.
+#[derive(Drop)]
+struct Counterfoil {
+    offers: u64,
+}
+
+impl Part for Counterfoil {
+    type Call = Banknote;
+
+    type Reply = Banknote;
+
+    type Entry = u64;
+
+    ghost stands = { λ c h. Unit {0} };
+
+    ghost name = { λ c. [] };
+
+    ghost may = { λ n call. Unit {0} };
+
+    ghost entry = { λ call reply. reply.value };
+
+    ghost answers = { λ call reply. reply ≡ call };
+
+    fn apply(&mut self, call: Banknote) -> Banknote {
+        self.offers = self.offers.wrapping_add(1);
+        call
+    }
+}
+
+/// Offers a note, and gives what comes back: the very note.
+fn offer(cell: &TurnCell<Counterfoil>, pass: Pass<Counterfoil, u64>, note: Banknote) -> Banknote
+    requires { IsOf cell.now pass }
+    ensures { result ≡ note }
+{
+    let mut pass = pass;
+    match cell.try_step(&mut pass, note) {
+        Tried::Done(back) => back,
+        Tried::Busy { count: _, call } => call,
+        Tried::Spent(call) => call,
+    }
+}
+
+#[test]
+fn a_note_that_is_handed_back_is_the_very_one(rt: HostRuntime) -> Result<(), Fail> {
+    let (cell, pass) = TurnCell::new(rt.alloc(), Counterfoil { offers: 0 })?;
+    let back = offer(&cell, pass, Banknote { value: 5, serial: 7 });
+    assert_eq!(rt; (back.value, back.serial), (5, 7));
     Ok(())
 }

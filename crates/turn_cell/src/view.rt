@@ -1,4 +1,5 @@
-// What a pass knows of its cell's history. It is plain data that exists in contracts alone: no value of it is made, and it has no bytes.
+//! What a pass knows of its cell's history. It is plain data that exists in contracts alone: no value of it
+//! is made, and it has no bytes.
 use std::collections::LinkedList;
 
 /// Whether a pass holds its cell's turn. Between calls none does.
@@ -10,8 +11,9 @@ pub enum Turn<E> {
     Holds(LinkedList<(u64, E)>),
 }
 
-/// What a join is to be told of two passes, each given by what it had seen and by its classes, at the load behind it. Between calls there is nothing to tell.
-pub enum Told<E> {
+/// What a join is to be told of two passes, each given by what it had seen and by its classes, at the load
+/// behind it. Between calls there is nothing to tell.
+pub enum JoinPending<E> {
     Nothing,
     Joined(
         LinkedList<(u64, E)>,
@@ -25,9 +27,11 @@ pub enum Told<E> {
 pub struct View<E> {
     /// The name of the cell's part.
     pub name: LinkedList<u64>,
-    /// The beginning of the cell's history that the pass has seen: each entry with the seat that it was made under.
+    /// The beginning of the cell's history that the pass has seen: each entry with the seat that it was made
+    /// under.
     pub seen: LinkedList<(u64, E)>,
-    /// The classes of seats that are the pass's. The class `(r, k)` is the numbers that leave `r` when divided by `2^k`.
+    /// The classes of seats that are the pass's. The class `(r, k)` is the numbers that leave `r` when
+    /// divided by `2^k`.
     pub classes: LinkedList<(u64, u64)>,
     /// How many `fetch_or` steps were made with the pass.
     pub tries: u64,
@@ -36,7 +40,7 @@ pub struct View<E> {
     /// Whether one of them found the word of a spent cell.
     pub met_spent: bool,
     pub turn: Turn<E>,
-    pub told: Told<E>,
+    pub told: JoinPending<E>,
     /// Whether the pass was joined into another, which has all that it had.
     pub gone: bool,
 }

@@ -9,4 +9,4 @@ fetch_or-found-requires g c = (search rules, search rules, takes_turn _ _ _ _ (s
 pub exchange-requires : goal.exchange-requires
 exchange-requires g c = let m = c.args.pass.seat.me in let at = c.args.pass.rests in
     let t = took g.P.Part.stands g.P.Part.name m c.fetch_or-found.new.seat.me c.fetch_or-found.result c.fetch_or-found.ensures.2 c.if-found-eq1.false in
-    (search rules, (Some t.1, alone _ _ (t.5 ∙ ap (λ xs. (0, Some t.1) ∷ xs) at.1)))
+    (search rules, (Some t.1, alone _ _ (t.5 ∙ ap (λ xs. (1, Some t.1) ∷ xs) at.1)))

@@ -1,5 +1,5 @@
 use Rattle.std.proofs.Common.{rules, ap, ◌∙◌, sym, subst}
-use Rattle.turn_cell.specs.declared.view.Told.TheVariants.{Nothing}
+use Rattle.turn_cell.specs.declared.view.JoinPending.TheVariants.{Nothing}
 use Rattle.turn_cell.specs.declared.view.View.{View}
 use Rattle.turn_cell.specs.Classes.{AreClasses}
 use Rattle.turn_cell.specs.View.{Fits}
