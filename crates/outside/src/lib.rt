@@ -13,6 +13,7 @@ mod count;
 mod files;
 mod link;
 mod listener;
+mod looks;
 mod mem_clock;
 mod mem_files;
 mod mem_sink;

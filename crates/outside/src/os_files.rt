@@ -34,7 +34,7 @@ where
 {
     /// The files of this runtime, with no root yet, so that no path is there.
     pub fn new(alloc: Global, rt: &'a R) -> OsFiles<'a, R>
-        ensures { ⟦<OsFiles<'a, R> as Files>⟧.told result ≡ record { rooted = None; finds = 0; faults = 0; firm = false } }
+        ensures { ⟦<OsFiles<'a, R> as Files>⟧.told result ≡ record { rooted = None; finds = 0; looked = None; faults = 0; firm = false } }
     {
         OsFiles {
             alloc,
@@ -65,7 +65,7 @@ where
 
     ghost folder = { None };
 
-    ghost told = { λ files. told_by files.rooted files.finds.n files.faults.n false };
+    ghost told = { λ files. told_by files.rooted files.finds.n None files.faults.n false };
 
     ghost file_path = { λ file. string_bytes file.path };
 
