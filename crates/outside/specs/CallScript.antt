@@ -1,4 +1,4 @@
--- Which calls of a memory form fail, by their numbers.
+-- To be believed: which calls of a memory form fail, by their numbers.
 use Rattle.std.specs.Prelude.{ℕ, Bool, IsTrue, List}
 use Rattle.std.specs.List.{Contains}
 use Rattle.outside.specs.Counts.{more_by_one}

@@ -1,5 +1,4 @@
--- What contracts know of a link, and what a read and a write make of it: the bytes, the end, and the counts by which a
--- fault or a wait is known.
+-- To be believed: what contracts know of a link, and what a read and a write make of it.
 use Rattle.std.specs.Prelude.{◌≡◌, ℕ, ◌≤◌, Bool, true, false, ◌||◌, IsTrue, List, [], ◌++◌, Option, IfSome, option_map, take, length}
 use Rattle.outside.specs.declared.link.ReadOut.{ReadOut}
 use Rattle.outside.specs.declared.link.ReadOut.TheVariants.{Got, End}

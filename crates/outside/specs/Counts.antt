@@ -1,4 +1,4 @@
--- Counts of faults and waits: they never fall, and stand still at the end of their type.
+-- To be believed: counts of faults and waits, which never fall and stand still at the end of their type.
 use Rattle.std.specs.Prelude.{ℕ, ◌+◌, ◌≤◌, if◌then◌else◌, min, nat_lt}
 
 -- two counts of one object, one for each direction

@@ -1,6 +1,5 @@
--- What contracts know of files, and what their answers say: of the folder, of the root, and of the count by which a fault
--- is known.
-use Rattle.std.specs.Prelude.{◌≡◌, ℕ, ◌≤◌, Bool, List, take, drop, length, Option, Some, None, IsSomeAnd}
+-- To be believed: what contracts know of files, and what each call makes of it.
+use Rattle.std.specs.Prelude.{◌≡◌, ℕ, ◌≤◌, Bool, List, [], ◌∷◌, ◌++◌, take, drop, length, Option, Some, None, IsSomeAnd, option_map}
 use Rattle.outside.specs.declared.files.RootOut.{RootOut}
 use Rattle.outside.specs.declared.files.RootOut.TheVariants as Roots
 use Rattle.outside.specs.declared.files.FindOut.{FindOut}
@@ -17,6 +16,8 @@ pub record FilesTold : Type 0 where
   pub rooted : Option (List ℕ × RootOut)
   -- how many calls of `find` there were
   pub finds : ℕ
+  -- the paths that `find` looked for, in order, where they are told
+  pub looked : Option (List (List ℕ))
   -- how many faults there were
   pub faults : ℕ
   -- whether no call ever fails
@@ -49,6 +50,13 @@ abbrev pub FindFaults : {X : Type 0} → FindOut X → ℕ → ℕ → Type 0
 FindFaults Finds.Failed old new = (old ≤ new) × Rises old new
 FindFaults _ old new = old ≤ new
 
+-- the paths that were looked for, after this one was: at want of memory it wasn't
+abbrev pub looked_after : {X : Type 0} → FindOut X → List ℕ → Option (List (List ℕ)) → Option (List (List ℕ))
+looked_after Finds.NoMemory path looked = looked
+looked_after (Found o) path looked = option_map (λ paths. paths ++ path ∷ []) looked
+looked_after Finds.Absent path looked = option_map (λ paths. paths ++ path ∷ []) looked
+looked_after Finds.Failed path looked = option_map (λ paths. paths ++ path ∷ []) looked
+
 -- the bytes at the front of the buffer are those that the folder has for this path from a place on
 abbrev pub ReadsFrom : Folder → List ℕ → ℕ → List ℕ → PartOut → Type 0
 ReadsFrom folder path at buf (Parts.Got n) = IsSomeAnd (file_at folder path) (λ f. take n buf ≡ take n (drop at f.0))
@@ -71,10 +79,11 @@ pub record AskedRoot (result : RootOut) (text : List ℕ) (old new : FilesTold) 
   pub same : new ≡ record old { rooted = new.rooted; faults = new.faults }
 
 -- what a look for a file makes of files
-pub record Looked {X : Type 0} (result : FindOut X) (old new : FilesTold) : Type 0 where
+pub record Looked {X : Type 0} (result : FindOut X) (path : List ℕ) (old new : FilesTold) : Type 0 where
   pub counted : new.finds ≡ more_by_one old.finds
+  pub noted : new.looked ≡ looked_after result path old.looked
   pub faulted : FindFaults result old.faults new.faults
-  pub same : new ≡ record old { finds = new.finds; faults = new.faults }
+  pub same : new ≡ record old { finds = new.finds; looked = new.looked; faults = new.faults }
 
 -- what a read of a part of a file makes of files
 pub record ReadPart (result : PartOut) (old new : FilesTold) : Type 0 where

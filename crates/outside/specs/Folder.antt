@@ -1,5 +1,5 @@
--- A folder: for each path the bytes and the time of the file that stands there.
-use Rattle.std.specs.Prelude.{ℕ, List, Option}
+-- To be believed: a folder, which has for each path the bytes and the time of the file that stands there.
+use Rattle.std.specs.Prelude.{◌≡◌, ℕ, List, length, Option, IfSome, IsSomeAnd}
 use Rattle.std.specs.Ordering.{nat_cmp}
 use Rattle.std.specs.Cmp.Lexicographic.{slice_cmp}
 use Rattle.std.specs.FinMap as finite
@@ -19,3 +19,7 @@ file_at folder path = finite.get folder path
 -- the folder that has these files; of two at one path the first
 abbrev pub folder_of : List (List ℕ × Content) → Folder
 folder_of entries = finite.from_entries entries
+
+-- where the folder is told, it has a file of this size and time at the path
+abbrev pub HasFile : Option Folder → List ℕ → ℕ → ℕ → Type 0
+HasFile folder path size mtime = IfSome folder (λ f. IsSomeAnd (file_at f path) (λ content. (size ≡ length content.0) × (mtime ≡ content.1)))

@@ -8,6 +8,7 @@ pub mod MemClock
 pub mod MemFolder
 pub mod MemSink
 pub mod Moments
+pub mod OsFile
 pub mod PieceLink
 pub mod ReadScript
 pub mod Room

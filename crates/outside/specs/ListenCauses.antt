@@ -1,4 +1,4 @@
--- What an answer of a listener says: of the link that it gives, and of the counts by which a fault or a wait is known.
+-- To be believed: what contracts know of a listener, and what an accept makes of it.
 use Rattle.std.specs.Prelude.{◌≡◌, ℕ, ◌≤◌, List, Option, Some, IfSome, IsSomeAnd, slice_get}
 use Rattle.outside.specs.declared.listener.AcceptOut.{AcceptOut}
 use Rattle.outside.specs.declared.listener.AcceptOut.TheVariants.{Accepted}

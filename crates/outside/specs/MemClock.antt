@@ -1,4 +1,4 @@
--- A clock that hands out a list of moments.
+-- To be believed: a clock that hands out a list of moments.
 use Rattle.std.specs.Prelude.{◌==◌, ℕ, zero, suc, ◌-◌, ◌+◌, List, [], ◌∷◌, ◌++◌, Option, Some, None, if◌then◌else◌, length, min, nat_lt, slice_index}
 use Rattle.outside.specs.Counts.{full}
 use Rattle.outside.specs.Moments.{ClockTold}

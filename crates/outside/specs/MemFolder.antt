@@ -1,4 +1,4 @@
--- The files of a folder in memory, by their paths.
+-- To be believed: the files of a folder in memory, by their paths.
 use Rattle.std.specs.Prelude.{◌≡◌, ◌<◌, ◌-◌, length, min, IsSomeAnd, slice_get, ℕ, List, [], ◌∷◌, Option, Some, None, bytes_eq, string_bytes, if◌then◌else◌, map}
 use Rattle.outside.specs.declared.mem_files.MemFile.{MemFile}
 use Rattle.outside.specs.declared.files.PartOut.{PartOut}

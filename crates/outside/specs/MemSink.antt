@@ -1,4 +1,4 @@
--- A sink in memory.
+-- To be believed: a sink in memory.
 use Rattle.std.specs.Prelude.{◌≡◌, ℕ, ◌+◌, ◌≤◌, ◌↔◌, List, ◌++◌, Some, length, take, ◌-◌}
 use Rattle.outside.specs.declared.mem_sink.MemSink.{MemSink}
 use Rattle.outside.specs.declared.sink.SinkOut.{SinkOut}

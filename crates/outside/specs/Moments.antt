@@ -1,4 +1,4 @@
--- What contracts know of a clock, and the moments that it hands out.
+-- To be believed: what contracts know of a clock, and the moments that it hands out.
 use Rattle.std.specs.Prelude.{◌≡◌, ℕ, List, ◌++◌, Option, IfSome, IsSomeAnd}
 
 -- what contracts know of a clock

@@ -1,4 +1,4 @@
--- A link in memory: what it will still do, and what it has done.
+-- To be believed: a link in memory, what it will still do and what it has done.
 use Rattle.std.specs.Prelude.{◌≡◌, ℕ, ◌+◌, ◌-◌, ◌≤◌, Bool, false, List, [], ◌∷◌, ◌++◌, Some, None, if◌then◌else◌, drop, length, min, nat_le}
 use Rattle.outside.specs.declared.link.WriteOut.{WriteOut}
 use Rattle.outside.specs.declared.link.WriteOut.TheVariants as Writes

@@ -1,4 +1,4 @@
--- What a link in memory will give, read by read.
+-- To be believed: what a link in memory will give, read by read.
 use Rattle.std.specs.Prelude.{◌≡◌, ℕ, ◌<◌, ◌≤◌, Bool, true, IsTrue, List, [], ◌∷◌, ◌++◌, nat_lt, take, drop, length, map, min}
 use Rattle.std.specs.List.{flat_map, list_all}
 use Rattle.outside.specs.declared.link.ReadOut.{ReadOut}

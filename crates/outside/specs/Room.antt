@@ -1,4 +1,4 @@
--- Room for bytes in memory.
+-- To be believed: room for bytes in memory.
 use Rattle.std.specs.Prelude.{ℕ, List}
 
 -- the bytes stored, and how many there is room for in all

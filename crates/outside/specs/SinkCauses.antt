@@ -1,4 +1,4 @@
--- What contracts know of a sink, and what putting a piece makes of it.
+-- To be believed: what contracts know of a sink, and what putting a piece makes of it.
 use Rattle.std.specs.Prelude.{◌≡◌, ℕ, ◌≤◌, List, ◌++◌, take, length, Option, option_map}
 use Rattle.outside.specs.declared.sink.SinkOut.{SinkOut}
 use Rattle.outside.specs.declared.sink.SinkOut.TheVariants.{Stored, Failed}

@@ -1,4 +1,4 @@
--- What a link over a reader and a writer of std tells: its counts of faults.
+-- To be believed: what a link over a reader and a writer of std tells: its counts of faults.
 use Rattle.std.specs.Prelude.{None}
 use Rattle.outside.specs.declared.std_link.StdLink.{StdLink}
 use Rattle.outside.specs.Causes.{LinkTold}

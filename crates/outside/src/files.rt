@@ -38,7 +38,7 @@ pub enum FindOut<X> {
     Absent,
     /// The files' count of faults rose.
     Failed,
-    /// Memory was short.
+    /// Memory was short. Nothing was looked for.
     NoMemory,
 }
 
@@ -59,7 +59,7 @@ pub trait Files {
     // Of the type: what the folder has, where it is told.
     ghost folder: { Option Folder };
 
-    // The root, the counts of looks and of faults, and whether no call ever fails.
+    // The root, what was looked for and how often, the count of faults, and whether no call ever fails.
     ghost told: { Self → FilesTold };
 
     // The path at which a file was found.
@@ -73,7 +73,7 @@ pub trait Files {
     fn find(&mut self, path: &str) -> FindOut<Self::File>
         ensures found { IfSome folder (λ f. FindsIn f path.now result) }
         ensures at { FoundAt Self.file_path path.now result }
-        ensures looked { Looked result (told self.old) (told self.new) };
+        ensures looked { Looked result path.now (told self.old) (told self.new) };
 
     /// Reads the file's bytes from place `at` on, counted from 0, into the front of the buffer. The caller
     /// owes a buffer that isn't empty and a place within the file as it was found.

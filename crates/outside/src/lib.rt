@@ -1,9 +1,9 @@
-// What a connection stands on: a link, files, a clock and a sink. Each is a trait whose contract all that
-// stands above is proved from, with a form in memory, which tells its bytes, and an adapter over the real
-// thing, which tells its counts alone. A listener, which links come from, is a trait alone: its two forms
-// belong to the pollers, in the crates above.
-//
-// The promise: a call answers that something failed or must wait only where a count of that very object rose.
+//! What a connection stands on: a link, files, a clock and a sink. Each is a trait whose contract all that
+//! stands above is proved from, with a form in memory, which tells its bytes, and an adapter over the real
+//! thing, which tells its counts alone. A listener, which links come from, is a trait alone: its two forms
+//! belong to the pollers, in the crates above.
+//!
+//! The promise: a call answers that something failed or must wait only where a count of that very object rose.
 #![tactic(auto)]
 
 mod bytes;
@@ -13,10 +13,12 @@ mod count;
 mod files;
 mod link;
 mod listener;
+mod looks;
 mod mem_clock;
 mod mem_files;
 mod mem_sink;
 mod os_clock;
+mod os_file;
 mod os_files;
 mod piece_link;
 mod place;
@@ -37,7 +39,8 @@ pub use mem_clock::MemClock;
 pub use mem_files::{MemFile, MemFiles, MemOpen};
 pub use mem_sink::MemSink;
 pub use os_clock::OsClock;
-pub use os_files::{OsFile, OsFiles};
+pub use os_file::OsFile;
+pub use os_files::OsFiles;
 pub use piece_link::{PieceLink, WriteEvent};
 pub use place::Place;
 pub use read_script::ReadEvent;

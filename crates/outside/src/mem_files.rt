@@ -1,5 +1,5 @@
 // A folder of files in memory, which tells what it has and fails where a test wants it to.
-ghost use Rattle.std.specs.Prelude.{◌≡◌, ◌<◌, ◌==◌, ◌↔◌, ℕ, List, None, Some, IsSomeAnd, length, string_bytes};
+ghost use Rattle.std.specs.Prelude.{◌≡◌, ◌<◌, ◌==◌, ◌↔◌, ℕ, List, [], None, Some, IsSomeAnd, length, string_bytes};
 ghost use Rattle.outside.specs.Folder.{file_at};
 ghost use Rattle.outside.specs.FileCauses.{AskedRoot, FindsIn, FoundAt, Looked, ReadPart};
 ghost use Rattle.outside.specs.CallScript.{NextFails, PlaysFind, PlaysRoot, called};
@@ -9,6 +9,7 @@ use crate::bytes::copy_from;
 use crate::call_script::CallScript;
 use crate::count::Count;
 use crate::files::{Files, FindOut, Opened, PartOut, RootOut};
+use crate::looks::Looks;
 use crate::place::Place;
 use crate::rooted::Rooted;
 use std::alloc::Global;
@@ -34,6 +35,7 @@ pub struct MemFiles<K: Place> {
     script: CallScript,
     rooted: Option<Rooted>,
     finds: Count,
+    looked: Looks,
     faults: Count,
     of: PhantomData<K>,
     ghost are: { (path : List ℕ) → entry_at contents.items path ≡ file_at K.folder path },
@@ -58,7 +60,7 @@ impl<K: Place> MemFiles<K> {
         requires { folder_in contents.items ≡ K.folder }
         ensures script { result.script ≡ record { failing = failing.items; calls = 0 } }
         ensures root { result.present ≡ present }
-        ensures told { ⟦<MemFiles<K> as Files>⟧.told result ≡ record { rooted = None; finds = 0; faults = 0; firm = length failing.items == 0 } }
+        ensures told { ⟦<MemFiles<K> as Files>⟧.told result ≡ record { rooted = None; finds = 0; looked = Some []; faults = 0; firm = length failing.items == 0 } }
     {
         MemFiles {
             alloc,
@@ -67,6 +69,7 @@ impl<K: Place> MemFiles<K> {
             script: CallScript::new(failing),
             rooted: None,
             finds: Count::new(),
+            looked: Looks::new(alloc),
             faults: Count::new(),
             of: PhantomData,
         }
@@ -83,12 +86,12 @@ impl<K: Place> MemFiles<K> {
 impl<K: Place> Files for MemFiles<K> {
     type File = MemOpen;
 
-    ghost use Rattle.std.specs.Prelude.{Some, ◌==◌, ◌≡◌};
+    ghost use Rattle.std.specs.Prelude.{Some, ◌==◌, ◌≡◌, string_bytes};
     ghost use Rattle.outside.specs.Rooted.{told_by};
 
     ghost folder = { Some K.folder };
 
-    ghost told = { λ files. told_by files.rooted files.finds.n files.faults.n (length files.script.failing == 0) };
+    ghost told = { λ files. told_by files.rooted files.finds.n (Some files.looked) files.faults.n (length files.script.failing == 0) };
 
     ghost file_path = { λ file. string_bytes file.path };
 
@@ -118,23 +121,27 @@ impl<K: Place> Files for MemFiles<K> {
         ensures at { FoundAt (λ file. string_bytes file.path) path.now result }
         ensures plays { PlaysFind self.old.script result }
         ensures script { self.new.script ≡ called self.old.script }
-        ensures looked { Looked result (⟦<MemFiles<K> as Files>⟧.told self.old) (⟦<MemFiles<K> as Files>⟧.told self.new) }
+        ensures looked { Looked result path.now (⟦<MemFiles<K> as Files>⟧.told self.old) (⟦<MemFiles<K> as Files>⟧.told self.new) }
     {
         self.finds.rise();
-        if self.script.next_fails() {
+        let fails = self.script.next_fails();
+        let Ok(text) = String::from_str(self.alloc, path) else {
+            return FindOut::NoMemory;
+        };
+        if self.looked.add(path).is_err() {
+            return FindOut::NoMemory;
+        }
+        if fails {
             self.faults.rise();
             return FindOut::Failed;
         }
-        let Some(at) = place_of(&self.contents, path) else {
-            return FindOut::Absent;
-        };
-        match String::from_str(self.alloc, path) {
-            Ok(path) => FindOut::Found(Opened {
-                file: MemOpen { path },
+        match place_of(&self.contents, path) {
+            Some(at) => FindOut::Found(Opened {
+                file: MemOpen { path: text },
                 size: self.contents[at].bytes.len() as u64,
                 mtime: self.contents[at].mtime,
             }),
-            Err(_) => FindOut::NoMemory,
+            None => FindOut::Absent,
         }
     }
 

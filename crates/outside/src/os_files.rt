@@ -1,14 +1,15 @@
 // The system's files below a root. They tell no folder: what a real folder holds is the system's word.
-ghost use Rattle.std.specs.Prelude.{◌≡◌, None, false, string_bytes};
+ghost use Rattle.std.specs.Prelude.{◌≡◌, ◌<◌, None, false, IfSome, length, string_bytes};
+ghost use Rattle.outside.specs.FileCauses.{FoundAt, Looked, PartWithin, ReadPart};
+ghost use Rattle.outside.specs.OsFile.{FindsKept, GivesKept, kept_of};
 
 use crate::count::Count;
-use crate::files::{Files, FindOut, Opened, PartOut, RootOut};
+use crate::files::{Files, FindOut, PartOut, RootOut};
+use crate::os_file::{OsFile, open_regular};
 use crate::rooted::Rooted;
 use std::alloc::{AllocError, Global};
-use std::fs::Metadata;
 use std::io::ErrorKind;
 use std::os::unix::fs::FileExt;
-use std::time::SystemTime;
 use std::{fs, rt};
 
 /// The system's files below a root. Symbolic links are followed as the system does.
@@ -21,20 +22,13 @@ pub struct OsFiles<'a, R> {
     faults: Count,
 }
 
-/// An open file of the system, and the path below the root at which it was found.
-#[derive(Drop)]
-pub struct OsFile<X> {
-    file: X,
-    path: String,
-}
-
 impl<'a, R: rt::Files> OsFiles<'a, R>
 where
     R::File: FileExt,
 {
     /// The files of this runtime, with no root yet, so that no path is there.
     pub fn new(alloc: Global, rt: &'a R) -> OsFiles<'a, R>
-        ensures { ⟦<OsFiles<'a, R> as Files>⟧.told result ≡ record { rooted = None; finds = 0; faults = 0; firm = false } }
+        ensures { ⟦<OsFiles<'a, R> as Files>⟧.told result ≡ record { rooted = None; finds = 0; looked = None; faults = 0; firm = false } }
     {
         OsFiles {
             alloc,
@@ -65,7 +59,7 @@ where
 
     ghost folder = { None };
 
-    ghost told = { λ files. told_by files.rooted files.finds.n files.faults.n false };
+    ghost told = { λ files. told_by files.rooted files.finds.n None files.faults.n false };
 
     ghost file_path = { λ file. string_bytes file.path };
 
@@ -76,17 +70,26 @@ where
         let answer = match fs::metadata(self.rt, root) {
             Ok(about) if about.is_dir() => RootOut::Present,
             Ok(_) => RootOut::Absent,
-            Err(e) if is_absent(e.kind()) => RootOut::Absent,
-            Err(_) => {
-                self.faults.rise();
-                RootOut::Failed
-            }
+            Err(e) => match e.kind() {
+                ErrorKind::OutOfMemory => return RootOut::NoMemory,
+                kind if is_nowhere(kind) => RootOut::Absent,
+                // Whether it is there can't be seen, so it isn't said to be absent.
+                _ => {
+                    self.faults.rise();
+                    RootOut::Failed
+                }
+            },
         };
         self.rooted = Some(Rooted { text, answer });
         answer
     }
 
-    fn find(&mut self, path: &str) -> FindOut<OsFile<R::File>> {
+    // A file whose content is kept has the size of this content.
+    fn find(&mut self, path: &str) -> FindOut<OsFile<R::File>>
+        ensures at { FoundAt (λ file. string_bytes file.path) path.now result }
+        ensures kept { FindsKept result }
+        ensures looked { Looked result path.now (⟦<OsFiles<'a, R> as Files>⟧.told self.old) (⟦<OsFiles<'a, R> as Files>⟧.told self.new) }
+    {
         self.finds.rise();
         let Ok(full) = self.full_path(path) else {
             return FindOut::NoMemory;
@@ -97,30 +100,35 @@ where
         let Ok(text) = String::from_str(self.alloc, path) else {
             return FindOut::NoMemory;
         };
-        match open_regular(self.rt, full.as_str()) {
-            Ok(Some((file, about))) => FindOut::Found(Opened {
-                file: OsFile { file, path: text },
-                size: about.len(),
-                mtime: seconds_of(&about),
-            }),
+        match open_regular(self.alloc, self.rt, full.as_str(), text) {
+            Ok(Some(opened)) => FindOut::Found(opened),
             Ok(None) => FindOut::Absent,
-            Err(ErrorKind::OutOfMemory) => FindOut::NoMemory,
-            Err(_) => {
-                self.faults.rise();
-                FindOut::Failed
-            }
+            Err(e) => match e.kind() {
+                ErrorKind::OutOfMemory => FindOut::NoMemory,
+                // A file that may not be read is as good as none.
+                ErrorKind::PermissionDenied => FindOut::Absent,
+                kind if is_nowhere(kind) => FindOut::Absent,
+                _ => {
+                    self.faults.rise();
+                    FindOut::Failed
+                }
+            },
         }
     }
 
-    fn read_at(&mut self, file: &mut OsFile<R::File>, at: u64, buf: &mut [u8]) -> PartOut {
-        match file.file.read_at(buf, at) {
-            Ok(n) if n > 0 => PartOut::Got(n),
-            // No byte at a place that the file had when it was found: it has become shorter.
-            _ => {
-                self.faults.rise();
-                PartOut::Failed
-            }
+    // Where the content of a file is kept, its bytes are these.
+    fn read_at(&mut self, file: &mut OsFile<R::File>, at: u64, buf: &mut [u8]) -> PartOut
+        requires room { 0 < length buf.old }
+        ensures within { PartWithin result buf.new }
+        ensures kept { IfSome (kept_of file.old) (GivesKept at buf.new result) }
+        ensures same { file.new ≡ file.old }
+        ensures read { ReadPart result (⟦<OsFiles<'a, R> as Files>⟧.told self.old) (⟦<OsFiles<'a, R> as Files>⟧.told self.new) }
+    {
+        let answer = file.read_part(at, buf);
+        if answer == PartOut::Failed {
+            self.faults.rise();
         }
+        answer
     }
 
     fn is_at(file: &OsFile<R::File>, text: &str) -> bool {
@@ -134,48 +142,15 @@ where
     ghost faults_fit = { λ files. files.faults.fits };
 }
 
-/// The regular file at a path of the system, or none where no such file is there. What is no regular file is
-/// never opened, since the opening of a pipe waits for its writer.
-fn open_regular<R: rt::Files>(
-    files: &R,
-    path: &str,
-) -> Result<Option<(R::File, Metadata)>, ErrorKind> {
-    match fs::metadata(files, path) {
-        Ok(about) if about.is_file() => match fs::open(files, path) {
-            Ok(file) => Ok(Some((file, about))),
-            Err(e) => none_if_absent(e.kind()),
-        },
-        Ok(_) => Ok(None),
-        Err(e) => none_if_absent(e.kind()),
-    }
-}
-
-fn none_if_absent<X>(kind: ErrorKind) -> Result<Option<X>, ErrorKind> {
-    if is_absent(kind) { Ok(None) } else { Err(kind) }
-}
-
-/// Whether an error says that nothing that may be read stands at a path: no such name can be reached, or the
-/// way to it or the file itself is closed to this program.
-fn is_absent(kind: ErrorKind) -> bool {
+/// Whether an error says that no such name can be reached.
+fn is_nowhere(kind: ErrorKind) -> bool {
     matches!(
         kind,
         ErrorKind::NotFound
             | ErrorKind::NotADirectory
             | ErrorKind::IsADirectory
-            | ErrorKind::PermissionDenied
             | ErrorKind::InvalidFilename
             | ErrorKind::FilesystemLoop
             | ErrorKind::InvalidInput
     )
-}
-
-/// When a file was last changed, in whole seconds since 1970; 0 where the system tells none or one before.
-fn seconds_of(about: &Metadata) -> u64 {
-    match about.modified() {
-        Ok(time) => match time.duration_since(SystemTime::UNIX_EPOCH) {
-            Ok(since) => since.as_secs(),
-            Err(_) => 0,
-        },
-        Err(_) => 0,
-    }
 }
