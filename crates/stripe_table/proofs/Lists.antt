@@ -2,7 +2,7 @@
 use Rattle.std.proofs.Common.{◌≡◌, ℕ, zero, suc, ◌≤◌, ◌<◌, ◌≢◌, ◌⊎◌, inl, inr, ⊎_elim, List, [], ◌∷◌, map, length, set, take, true, false, Bool, sym, refl, ap, ◌∙◌, subst, arith}
 use Rattle.std.specs.Prelude.{Some, filter, not, ◌||◌, ◌==◌, slice_get, remove}
 use Rattle.std.specs.List.{list_any}
-use Rattle.std.proofs.lemmas.Bool.{or_left, or_right, or_parts, eq-eqb, ne_eqb, cond-true, cond-false, cond_both}
+use Rattle.std.proofs.lemmas.Bool.{or_left, or_right, or_parts, eq-eqb, ne_eqb, not-false, cond-true, cond-false, cond_both}
 use Rattle.std.proofs.lemmas.Option.{same_Some, none-some}
 use Rattle.std.proofs.Math.Nat.{eq-or-lt_of_le}
 use Rattle.stripe_table.specs.Ascending.{AllAbove, Ascends}
@@ -37,6 +37,10 @@ module _ {A : Type 0} (f : A → Bool) where
   pub all_kept : (xs : List A) → list_any f xs ≡ false → filter (λ x. not (f x)) xs ≡ xs
   all_kept [] e = refl
   all_kept (x ∷ xs) e = let a = or_parts (f x) (list_any f xs) e in cond-true (not (f x)) (x ∷ filter (λ x. not (f x)) xs) (filter (λ x. not (f x)) xs) (ap not a.0) ∙ ap (λ l. x ∷ l) (all_kept xs a.1)
+
+  pub all_pass : (xs : List A) → list_any (λ x. not (f x)) xs ≡ false → filter f xs ≡ xs
+  all_pass [] e = refl
+  all_pass (x ∷ xs) e = let a = or_parts (not (f x)) (list_any (λ x. not (f x)) xs) e in cond-true (f x) (x ∷ filter f xs) (filter f xs) (not-false (f x) a.0) ∙ ap (λ l. x ∷ l) (all_pass xs a.1)
 
   -- a change of the elements that pass the test leaves the others
   pub none_changed : (h : A → A) → ((x : A) → f x ≡ false → h x ≡ x) → (xs : List A) → list_any f xs ≡ false → map h xs ≡ xs

@@ -1,32 +1,17 @@
 -- The stripe as a part: what its calls add to what it stands for.
 use Rattle.std.proofs.Common.{◌≡◌, ℕ, ◌+◌, ◌*◌, ◌<◌, List, [], ◌∷◌, ◌++◌, map, length, true, false, sym, refl, ap, ◌∙◌, subst, arith}
-use Rattle.std.specs.Prelude.{Option, Some, None, is_some, ◌==◌, slice_get}
+use Rattle.std.specs.Prelude.{Option, Some, None, is_some, slice_get}
 use Rattle.std.specs.List.{list_any}
-use Rattle.std.proofs.lemmas.Bool.{both_ways, and_from, cond-true, eq-eqb}
+use Rattle.std.proofs.lemmas.Bool.{both_ways}
 use Rattle.std.proofs.lemmas.List.{map-append}
 use Rattle.std.proofs.lemmas.Option.{none-some}
 use Rattle.reg_keys.specs.declared.opening.Opening.{Opening}
-use Rattle.reg_keys.specs.declared.event.EventName.{EventName}
-use Rattle.reg_keys.specs.declared.registration.Dir.{Dir}
-use Rattle.reg_keys.specs.declared.entry.LoadKind.{LoadKind}
-use Rattle.reg_keys.specs.declared.entry.LoadKind.TheVariants as Kinds
-use Rattle.reg_keys.specs.declared.entry.RegisterOutcome.TheVariants as Registers
-use Rattle.reg_keys.specs.declared.entry.DispatchOutcome.TheVariants as Dispatches
 use Rattle.reg_keys.specs.declared.entry.Entry.{Entry}
-use Rattle.reg_keys.specs.declared.entry.Entry.TheVariants.{Register, Dispatch}
-use Rattle.reg_keys.specs.Tests.{same_event}
 use Rattle.reg_keys.specs.Histories.{past_of}
 use Rattle.reg_keys.specs.Replies.{IsLegal}
-use Rattle.reg_keys.proofs.TestLemmas.{same_self}
 use Rattle.reg_keys.proofs.Pasts.{past_of-more}
-use Rattle.stripe_table.specs.Calls.{kind_of, registered, dispatched, HandsBack, HandsEventBack, same_numbers, same_tag, same_kind, handed_back, no_entry, register_entry, dispatch_entry}
 use Rattle.stripe_table.specs.Facts.{facts_of}
 use Rattle.stripe_table.specs.Stands.{FitsAt, Step, Stands}
-use Rattle.stripe_table.specs.declared.load.Payload.{Payload}
-use Rattle.stripe_table.specs.declared.calls.RegisterReply.{RegisterReply}
-use Rattle.stripe_table.specs.declared.calls.RegisterReply.TheVariants as RegisterAnswer
-use Rattle.stripe_table.specs.declared.calls.DispatchReply.{DispatchReply}
-use Rattle.stripe_table.specs.declared.calls.DispatchReply.TheVariants as DispatchAnswer
 use Rattle.stripe_table.specs.declared.descriptor.OpenDescriptor.{OpenDescriptor}
 use Rattle.stripe_table.specs.declared.stripe.Stripe.{Stripe}
 use Rattle.stripe_table.proofs.Lists.{any_at}
