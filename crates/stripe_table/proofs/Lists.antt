@@ -24,6 +24,15 @@ none_taken f (y ∷ ys) zero i x le e at = absurd (omega arith)
 none_taken f (y ∷ ys) (suc n) zero x le e at = ap f (sym (same_Some y x at)) ∙ (or_parts (f y) (list_any f (take n ys)) e).0
 none_taken f (y ∷ ys) (suc n) (suc i) x le e at = none_taken f ys n i x (omega arith) (or_parts (f y) (list_any f (take n ys)) e).1 at
 
+-- where none passed before a place, and what is there doesn't, none passes up to behind it
+pub none_more : {A : Type 0} (f : A → Bool) (xs : List A) (i j : ℕ) (x : A) → j ≡ suc i → slice_get xs i ≡ Some x → list_any f (take i xs) ≡ false → f x ≡ false → list_any f (take j xs) ≡ false
+none_more f xs i j x is at none off = subst (λ (n : ℕ). list_any f (take n xs) ≡ false) (sym is) (go xs i at none)
+  where
+    go : (xs : List _) (i : ℕ) → slice_get xs i ≡ Some x → list_any f (take i xs) ≡ false → list_any f (take (suc i) xs) ≡ false
+    go [] i at none = absurd (none-some x at)
+    go (y ∷ ys) zero at none = ap (λ b. b || false) (ap f (same_Some y x at) ∙ off)
+    go (y ∷ ys) (suc i) at none = let a = or_parts (f y) (list_any f (take i ys)) none in ap (λ b. b || list_any f (take (suc i) ys)) a.0 ∙ go ys i at a.1
+
 -- ---- filters
 
 module _ {A : Type 0} (f : A → Bool) where

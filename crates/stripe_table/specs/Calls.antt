@@ -1,9 +1,7 @@
 -- To be believed: the entry that a call on a stripe and its reply make, which reply belongs to which call, and which calls a stripe takes.
 use Rattle.std.specs.Prelude.{◌≡◌, ℕ, ◌<◌, ◌%◌, List, [], ◌∷◌, map, Option, Some, None}
-use Rattle.reg_keys.specs.declared.opening.Opening.{Opening}
 use Rattle.reg_keys.specs.declared.event.EventName.{EventName}
 use Rattle.reg_keys.specs.declared.registration.Key.{Key}
-use Rattle.reg_keys.specs.declared.registration.Dir.{Dir}
 use Rattle.reg_keys.specs.declared.entry.LoadKind.{LoadKind}
 use Rattle.reg_keys.specs.declared.entry.LoadKind.TheVariants as Kinds
 use Rattle.reg_keys.specs.declared.entry.FiredKey.{FiredKey}

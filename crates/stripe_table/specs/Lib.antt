@@ -5,6 +5,5 @@ pub mod Facts
 pub mod Firing
 pub mod Flags
 pub mod Fours
-pub mod Index
 pub mod Loads
 pub mod Stands

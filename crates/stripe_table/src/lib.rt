@@ -11,7 +11,6 @@ mod descriptor;
 mod firing;
 mod flags;
 mod four;
-mod index;
 mod load;
 mod part;
 mod stripe;
