@@ -2,7 +2,7 @@
 use Rattle.std.proofs.Common.{◌≡◌, ℕ, zero, suc, ◌≤◌, ◌<◌, ◌≢◌, ◌⊎◌, inl, inr, ⊎_elim, List, [], ◌∷◌, map, length, set, take, true, false, Bool, sym, refl, ap, ◌∙◌, subst, arith}
 use Rattle.std.specs.Prelude.{Some, filter, not, ◌||◌, ◌==◌, slice_get, remove}
 use Rattle.std.specs.List.{list_any}
-use Rattle.std.proofs.lemmas.Bool.{or_left, or_right, or_parts, eq-eqb, ne_eqb, cond-true, cond-false, cond_both}
+use Rattle.std.proofs.lemmas.Bool.{or_left, or_right, or_parts, eq-eqb, ne_eqb, not-false, cond-true, cond-false, cond_both}
 use Rattle.std.proofs.lemmas.Option.{same_Some, none-some}
 use Rattle.std.proofs.Math.Nat.{eq-or-lt_of_le}
 use Rattle.stripe_table.specs.Ascending.{AllAbove, Ascends}
@@ -24,6 +24,15 @@ none_taken f (y ∷ ys) zero i x le e at = absurd (omega arith)
 none_taken f (y ∷ ys) (suc n) zero x le e at = ap f (sym (same_Some y x at)) ∙ (or_parts (f y) (list_any f (take n ys)) e).0
 none_taken f (y ∷ ys) (suc n) (suc i) x le e at = none_taken f ys n i x (omega arith) (or_parts (f y) (list_any f (take n ys)) e).1 at
 
+-- where none passed before a place, and what is there doesn't, none passes up to behind it
+pub none_more : {A : Type 0} (f : A → Bool) (xs : List A) (i j : ℕ) (x : A) → j ≡ suc i → slice_get xs i ≡ Some x → list_any f (take i xs) ≡ false → f x ≡ false → list_any f (take j xs) ≡ false
+none_more f xs i j x is at none off = subst (λ (n : ℕ). list_any f (take n xs) ≡ false) (sym is) (go xs i at none)
+  where
+    go : (xs : List _) (i : ℕ) → slice_get xs i ≡ Some x → list_any f (take i xs) ≡ false → list_any f (take (suc i) xs) ≡ false
+    go [] i at none = absurd (none-some x at)
+    go (y ∷ ys) zero at none = ap (λ b. b || false) (ap f (same_Some y x at) ∙ off)
+    go (y ∷ ys) (suc i) at none = let a = or_parts (f y) (list_any f (take i ys)) none in ap (λ b. b || list_any f (take (suc i) ys)) a.0 ∙ go ys i at a.1
+
 -- ---- filters
 
 module _ {A : Type 0} (f : A → Bool) where
@@ -37,6 +46,10 @@ module _ {A : Type 0} (f : A → Bool) where
   pub all_kept : (xs : List A) → list_any f xs ≡ false → filter (λ x. not (f x)) xs ≡ xs
   all_kept [] e = refl
   all_kept (x ∷ xs) e = let a = or_parts (f x) (list_any f xs) e in cond-true (not (f x)) (x ∷ filter (λ x. not (f x)) xs) (filter (λ x. not (f x)) xs) (ap not a.0) ∙ ap (λ l. x ∷ l) (all_kept xs a.1)
+
+  pub all_pass : (xs : List A) → list_any (λ x. not (f x)) xs ≡ false → filter f xs ≡ xs
+  all_pass [] e = refl
+  all_pass (x ∷ xs) e = let a = or_parts (not (f x)) (list_any (λ x. not (f x)) xs) e in cond-true (f x) (x ∷ filter f xs) (filter f xs) (not-false (f x) a.0) ∙ ap (λ l. x ∷ l) (all_pass xs a.1)
 
   -- a change of the elements that pass the test leaves the others
   pub none_changed : (h : A → A) → ((x : A) → f x ≡ false → h x ≡ x) → (xs : List A) → list_any f xs ≡ false → map h xs ≡ xs

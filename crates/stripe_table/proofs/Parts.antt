@@ -1,66 +1,21 @@
 -- The stripe as a part: what its calls add to what it stands for.
-use Rattle.std.proofs.Common.{◌≡◌, ℕ, ◌+◌, ◌*◌, ◌<◌, List, [], ◌∷◌, ◌++◌, map, length, true, false, sym, refl, ap, ◌∙◌, subst, arith}
-use Rattle.std.specs.Prelude.{Option, Some, None, is_some, ◌==◌, slice_get}
+use Rattle.std.proofs.Common.{◌≡◌, ℕ, ◌+◌, ◌*◌, ◌<◌, List, [], ◌∷◌, ◌++◌, map, length, false, sym, refl, ap, ◌∙◌, subst, arith}
+use Rattle.std.specs.Prelude.{Option, Some, None, is_some, slice_get}
 use Rattle.std.specs.List.{list_any}
-use Rattle.std.proofs.lemmas.Bool.{both_ways, and_from, cond-true, eq-eqb}
+use Rattle.std.proofs.lemmas.Bool.{both_ways}
 use Rattle.std.proofs.lemmas.List.{map-append}
 use Rattle.std.proofs.lemmas.Option.{none-some}
-use Rattle.reg_keys.specs.declared.opening.Opening.{Opening}
-use Rattle.reg_keys.specs.declared.event.EventName.{EventName}
-use Rattle.reg_keys.specs.declared.registration.Dir.{Dir}
-use Rattle.reg_keys.specs.declared.entry.LoadKind.{LoadKind}
-use Rattle.reg_keys.specs.declared.entry.LoadKind.TheVariants as Kinds
-use Rattle.reg_keys.specs.declared.entry.RegisterOutcome.TheVariants as Registers
-use Rattle.reg_keys.specs.declared.entry.DispatchOutcome.TheVariants as Dispatches
 use Rattle.reg_keys.specs.declared.entry.Entry.{Entry}
-use Rattle.reg_keys.specs.declared.entry.Entry.TheVariants.{Register, Dispatch}
-use Rattle.reg_keys.specs.Tests.{same_event}
 use Rattle.reg_keys.specs.Histories.{past_of}
 use Rattle.reg_keys.specs.Replies.{IsLegal}
-use Rattle.reg_keys.proofs.TestLemmas.{same_self}
 use Rattle.reg_keys.proofs.Pasts.{past_of-more}
-use Rattle.stripe_table.specs.Calls.{kind_of, registered, dispatched, HandsBack, HandsEventBack, same_numbers, same_tag, same_kind, handed_back, no_entry, register_entry, dispatch_entry}
 use Rattle.stripe_table.specs.Facts.{facts_of}
 use Rattle.stripe_table.specs.Stands.{FitsAt, Step, Stands}
-use Rattle.stripe_table.specs.declared.load.Payload.{Payload}
-use Rattle.stripe_table.specs.declared.calls.RegisterReply.{RegisterReply}
-use Rattle.stripe_table.specs.declared.calls.RegisterReply.TheVariants as RegisterAnswer
-use Rattle.stripe_table.specs.declared.calls.DispatchReply.{DispatchReply}
-use Rattle.stripe_table.specs.declared.calls.DispatchReply.TheVariants as DispatchAnswer
 use Rattle.stripe_table.specs.declared.descriptor.OpenDescriptor.{OpenDescriptor}
 use Rattle.stripe_table.specs.declared.stripe.Stripe.{Stripe}
 use Rattle.stripe_table.proofs.Lists.{any_at}
 
-numbers_self : (ns : List ℕ) → same_numbers ns ns ≡ true
-numbers_self [] = refl
-numbers_self (n ∷ ns) = and_from (n == n) (same_numbers ns ns) (eq-eqb n n refl) (numbers_self ns)
-
-tag_self : (ns : List (List ℕ)) → same_tag ns ns ≡ true
-tag_self [] = refl
-tag_self (n ∷ ns) = and_from (same_numbers n n) (same_tag ns ns) (numbers_self n) (tag_self ns)
-
-kind_self : (k : LoadKind) → same_kind k k ≡ true
-kind_self (Kinds.Job tag) = tag_self tag
-kind_self Kinds.Flag = refl
-
-event_self : (e : EventName) → same_event e e ≡ true
-event_self e = and_from (e.number == e.number) _ (eq-eqb e.number e.number refl) (same_self e.opening)
-
 module _ {T : Type 0} (tag : T → List (List ℕ)) where
-  back_is : (load back : Payload T) (e : Entry) → back ≡ load → handed_back (same_kind (kind_of tag load) (kind_of tag back)) e ≡ e
-  back_is load back e is = cond-true (same_kind (kind_of tag load) (kind_of tag back)) e no_entry (ap (λ (p : Payload T). same_kind (kind_of tag load) (kind_of tag p)) is ∙ kind_self (kind_of tag load))
-
-  pub entry_registered : (o : Opening) (d : Dir) (m : Option ℕ) (load : Payload T) (r : RegisterReply T) → HandsBack load r → register_entry tag o d m load r ≡ Register o d m (kind_of tag load) (registered r)
-  entry_registered o d m load (RegisterAnswer.Shut back) is = back_is load back (Register o d m (kind_of tag load) Registers.Shut) is
-  entry_registered o d m load (RegisterAnswer.Crowded back) is = back_is load back (Register o d m (kind_of tag load) Registers.Crowded) is
-  entry_registered o d m load (RegisterAnswer.Spent back) is = back_is load back (Register o d m (kind_of tag load) Registers.Spent) is
-  entry_registered o d m load (RegisterAnswer.Waits key e) is = refl
-
-  pub entry_dispatched : (e : EventName) (r : DispatchReply T) → HandsEventBack e r → dispatch_entry tag e r ≡ Dispatch e (dispatched tag r)
-  entry_dispatched e (DispatchAnswer.Spent back) is = cond-true (same_event e back) (Dispatch e Dispatches.Spent) no_entry (ap (same_event e) is ∙ event_self e)
-  entry_dispatched e DispatchAnswer.Stale is = refl
-  entry_dispatched e (DispatchAnswer.Ran list next) is = refl
-
   stands_after : (past : List Entry) (e : Entry) (st st' : Stripe T) → Stands tag past st → Step tag past e st st' → Stands tag (e ∷ past) st'
   stands_after past e st st' s step = record {
     legal = subst (λ (x : ℕ × ℕ). IsLegal x.0 x.1 (e ∷ past)) (λ i. (sym step.name.0 i, sym step.name.1 i)) (s.legal, step.right);
@@ -68,10 +23,10 @@ module _ {T : Type 0} (tag : T → List (List ℕ)) where
   }
 
   -- the stripe stands for one entry more
-  pub stands_more : (st st' : Stripe T) (h : List (ℕ × Entry)) (seat : ℕ) (e e' : Entry) → Stands tag (past_of (map (λ (x : ℕ × Entry). x.1) h)) st → e' ≡ e → Step tag (past_of (map (λ (x : ℕ × Entry). x.1) h)) e st st'
-      → Stands tag (past_of (map (λ (x : ℕ × Entry). x.1) (h ++ (seat, e') ∷ []))) st'
-  stands_more st st' h seat e e' s is step = subst (λ (past : List Entry). Stands tag past st')
-      (sym (ap past_of (map-append (λ (x : ℕ × Entry). x.1) h ((seat, e') ∷ [])) ∙ (past_of-more (map (λ (x : ℕ × Entry). x.1) h) e' ∙ ap (λ (x : Entry). x ∷ past_of (map (λ (x : ℕ × Entry). x.1) h)) is)))
+  pub stands_more : (st st' : Stripe T) (h : List (ℕ × Entry)) (seat : ℕ) (e : Entry) → Stands tag (past_of (map (λ (x : ℕ × Entry). x.1) h)) st → Step tag (past_of (map (λ (x : ℕ × Entry). x.1) h)) e st st'
+      → Stands tag (past_of (map (λ (x : ℕ × Entry). x.1) (h ++ (seat, e) ∷ []))) st'
+  stands_more st st' h seat e s step = subst (λ (past : List Entry). Stands tag past st')
+      (sym (ap past_of (map-append (λ (x : ℕ × Entry). x.1) h ((seat, e) ∷ [])) ∙ past_of-more (map (λ (x : ℕ × Entry). x.1) h) e))
       (stands_after (past_of (map (λ (x : ℕ × Entry). x.1) h)) e st st' s step)
 
   -- a stripe that was just made stands for nothing

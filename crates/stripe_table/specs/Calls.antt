@@ -1,10 +1,7 @@
--- The entry of a call and its reply.
-use Rattle.std.specs.Prelude.{◌≡◌, ℕ, ◌<◌, ◌%◌, ◌&&◌, ◌==◌, Bool, true, false, if◌then◌else◌, List, [], ◌∷◌, map, Option, Some, None}
-use Rattle.reg_keys.specs.Tests.{same_event}
-use Rattle.reg_keys.specs.declared.opening.Opening.{Opening}
+-- To be believed: the entry that a call on a stripe and its reply make, which reply belongs to which call, and which calls a stripe takes.
+use Rattle.std.specs.Prelude.{◌≡◌, ℕ, ◌<◌, ◌%◌, List, [], ◌∷◌, map, Option, Some, None}
 use Rattle.reg_keys.specs.declared.event.EventName.{EventName}
 use Rattle.reg_keys.specs.declared.registration.Key.{Key}
-use Rattle.reg_keys.specs.declared.registration.Dir.{Dir}
 use Rattle.reg_keys.specs.declared.entry.LoadKind.{LoadKind}
 use Rattle.reg_keys.specs.declared.entry.LoadKind.TheVariants as Kinds
 use Rattle.reg_keys.specs.declared.entry.FiredKey.{FiredKey}
@@ -122,56 +119,33 @@ module _ {T : Type 0} where
   HandsEventBack event (DispatchAnswer.Spent back) = back ≡ event
   HandsEventBack event _ = Unit {0}
 
--- an entry that no legal history has: the opening isn't on its own descriptor
+-- the entry of a reply to another call, which never comes: the opening isn't on its own descriptor, so no legal history has it
 abbrev pub no_entry : Entry
 no_entry = Open 0 (Opens.Opened (record { number = 0; fd = 1 }))
 
--- the same list of numbers
-abbrev pub same_numbers : List ℕ → List ℕ → Bool
-same_numbers [] [] = true
-same_numbers (m ∷ ms) (n ∷ ns) = (m == n) && same_numbers ms ns
-same_numbers _ _ = false
-
--- the same tag
-abbrev pub same_tag : List (List ℕ) → List (List ℕ) → Bool
-same_tag [] [] = true
-same_tag (m ∷ ms) (n ∷ ns) = same_numbers m n && same_tag ms ns
-same_tag _ _ = false
-
--- two flags, or two jobs of the same tag
-abbrev pub same_kind : LoadKind → LoadKind → Bool
-same_kind (Kinds.Job m) (Kinds.Job n) = same_tag m n
-same_kind Kinds.Flag Kinds.Flag = true
-same_kind _ _ = false
-
--- the entry of a refusal that hands back what came, and no legal entry else
-abbrev pub handed_back : Bool → Entry → Entry
-handed_back b e = if b then e else no_entry
-
 module _ {T : Type 0} (tag : T → List (List ℕ)) where
-  -- the entry of a registration: a refusal has handed back a load of the same kind
-  abbrev pub register_entry : Opening → Dir → Option ℕ → Payload T → RegisterReply T → Entry
-  register_entry o d m load (RegisterAnswer.Shut back) = handed_back (same_kind (kind_of tag load) (kind_of tag back)) (Register o d m (kind_of tag load) Registers.Shut)
-  register_entry o d m load (RegisterAnswer.Crowded back) = handed_back (same_kind (kind_of tag load) (kind_of tag back)) (Register o d m (kind_of tag load) Registers.Crowded)
-  register_entry o d m load (RegisterAnswer.Spent back) = handed_back (same_kind (kind_of tag load) (kind_of tag back)) (Register o d m (kind_of tag load) Registers.Spent)
-  register_entry o d m load (RegisterAnswer.Waits key e) = Register o d m (kind_of tag load) (Registers.Waits key e)
-
-  -- the entry of a dispatch: a refusal has handed back the same event
-  abbrev pub dispatch_entry : EventName → DispatchReply T → Entry
-  dispatch_entry e (DispatchAnswer.Spent back) = handed_back (same_event e back) (Dispatch e Dispatches.Spent)
-  dispatch_entry e DispatchAnswer.Stale = Dispatch e Dispatches.Stale
-  dispatch_entry e (DispatchAnswer.Ran list next) = Dispatch e (dispatched tag (DispatchAnswer.Ran list next))
-
-  -- the entry that a call and its reply make. A reply to another call makes no legal one.
+  -- the entry that a call and its reply make
   abbrev pub entry_of : StripeCall T → Reply T → Entry
   entry_of (Call.Open fd) (Answer.Open r) = Open fd (opened r)
   entry_of (Call.Report o ds) (Answer.Report r) = Report o ds (reported r)
-  entry_of (Call.Register o d m load) (Answer.Register r) = register_entry o d m load r
+  entry_of (Call.Register o d m load) (Answer.Register r) = Register o d m (kind_of tag load) (registered r)
   entry_of (Call.Withdraw key) (Answer.Withdraw r) = Withdraw key (withdrawn tag r)
   entry_of (Call.Ask key) (Answer.Ask r) = Ask key (asked r)
-  entry_of (Call.Dispatch e) (Answer.Dispatch r) = dispatch_entry e r
+  entry_of (Call.Dispatch e) (Answer.Dispatch r) = Dispatch e (dispatched tag r)
   entry_of (Call.Close o) (Answer.Close r) = Close o (closed tag r)
   entry_of _ _ = no_entry
+
+module _ {T : Type 0} where
+  -- the reply is of its call's kind, and a refusal hands back the very load or event that came
+  abbrev pub IsAnswerTo : StripeCall T → Reply T → Type 0
+  IsAnswerTo (Call.Open fd) (Answer.Open r) = Unit {0}
+  IsAnswerTo (Call.Report o ds) (Answer.Report r) = Unit {0}
+  IsAnswerTo (Call.Register o d m load) (Answer.Register r) = HandsBack load r
+  IsAnswerTo (Call.Withdraw key) (Answer.Withdraw r) = Unit {0}
+  IsAnswerTo (Call.Ask key) (Answer.Ask r) = Unit {0}
+  IsAnswerTo (Call.Dispatch e) (Answer.Dispatch r) = HandsEventBack e r
+  IsAnswerTo (Call.Close o) (Answer.Close r) = Unit {0}
+  IsAnswerTo _ _ = ⊥
 
 module _ {T : Type 0} where
   -- the descriptor, opening, key or event of a call is of the stripe

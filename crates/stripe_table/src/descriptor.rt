@@ -7,10 +7,7 @@ use crate::firing::{flags_among, run_all};
 use crate::flags::Flags;
 use crate::four::Four;
 use crate::load::Payload;
-use reg_keys::{Dir, Dirs, Marks};
-
-/// How many registrations and fired flags an opening may have at a time.
-const PLACES: usize = 4;
+use reg_keys::{Dir, Dirs, Marks, PLACES};
 
 /// One direction of an opening.
 #[derive(Clone, Copy, Drop)]
@@ -51,17 +48,18 @@ pub struct OutSlot {
     pub dirs: Dirs,
 }
 
-/// What is kept of an open descriptor.
+/// What is kept of an open descriptor. What a report reads and writes comes first, so that it touches one or two
+/// lines of the processor's cache, however big a job is.
 #[derive(Drop)]
 pub struct OpenDescriptor<T> {
     /// The number of its opening.
     pub number: u64,
     pub read: Side,
     pub write: Side,
-    pub waits: Four<Registration<T>>,
+    pub out: Option<OutSlot>,
     /// How many flags have run and haven't been asked for. Each keeps its place.
     pub fired: usize,
-    pub out: Option<OutSlot>,
+    pub waits: Four<Registration<T>>,
 }
 
 ghost use Rattle.reg_keys.specs.Tests.{same_dir, has_dir};
@@ -95,9 +93,9 @@ impl<T: Drop> OpenDescriptor<T> {
             number,
             read: side,
             write: side,
-            waits: Four::new(),
-            fired: 0,
             out: None,
+            fired: 0,
+            waits: Four::new(),
         }
     }
 
@@ -175,12 +173,30 @@ impl<T: Drop> OpenDescriptor<T> {
         true
     }
 
+    /// Whether the event runs every registration, so that they can go out whole.
+    fn is_all_due(&self, event: &OutSlot) -> bool
+        ensures { result ≡ not (list_any (λ r. not (is_for event.now r)) self.now.waits) }
+    {
+        for place in 0..self.waits.len() {
+            let Some(registration) = self.waits.get(place) else {
+                return true;
+            };
+            if !is_for(registration, event) {
+                return false;
+            }
+        }
+        true
+    }
+
     /// Takes the registrations that wait for one of the event's directions and are older than it.
     pub fn take_due(&mut self, event: &OutSlot) -> Four<Registration<T>>
         ensures taken { result ≡ filter (is_for event.now) self.old.waits }
         ensures left { self.new ≡ record self.old { waits = filter (λ r. not (is_for event.now r)) self.old.waits } }
         ensures most { length self.old.waits ≤ 4 }
     {
+        if self.is_all_due(event) {
+            return self.waits.take();
+        }
         let mut waits = self.waits.take();
         let mut taken = Four::new();
         while let Some(registration) = waits.pop_first() {
@@ -253,7 +269,7 @@ impl<T: Drop> OpenDescriptor<T> {
         ensures full { result ≡ nat_le 4 (length self.now.waits + self.now.fired) }
         ensures most { length self.now.waits ≤ 4 }
     {
-        self.fired >= PLACES - self.waits.len()
+        self.fired >= PLACES as usize - self.waits.len()
     }
 }
 

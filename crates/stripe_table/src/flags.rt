@@ -5,12 +5,9 @@ ghost use Rattle.std.specs.List.{list_any};
 ghost use Rattle.stripe_table.specs.Ascending.{Ascends};
 
 use crate::load::Payload;
-use reg_keys::{Dir, Marks, Opening};
+use reg_keys::{Dir, FLAGS, Marks, Opening};
 use std::alloc::{AllocError, Global};
 use std::marker::Model;
-
-/// How many flags of a stripe may be unasked at a time.
-pub const FLAGS: usize = 512;
 
 /// What a flag's owner is told.
 #[derive(Clone, Copy, Drop)]
@@ -69,7 +66,7 @@ impl Flags {
         ensures { IfOk result (λ f. f ≡ []) }
     {
         Ok(Flags {
-            items: Vec::with_capacity(alloc, FLAGS)?,
+            items: Vec::with_capacity(alloc, FLAGS as usize)?,
         })
     }
 
@@ -77,7 +74,7 @@ impl Flags {
     pub fn is_full(&self) -> bool
         ensures { result ≡ nat_le 512 (length self.now) }
     {
-        self.items.len() >= FLAGS
+        self.items.len() as u64 >= FLAGS
     }
 
     /// Adds a flag, for which there must be room.

@@ -96,13 +96,22 @@ impl<X: Drop> Four<X> {
         mem::replace(self, Four::new())
     }
 
-    /// Takes the first value out.
+    /// Takes the first value out. The others move up, each where there is one.
     pub fn pop_first(&mut self) -> Option<X>
         ensures { MatchOption result ((self.old ≡ []) × (self.new ≡ [])) (λ x. self.old ≡ x ∷ self.new) }
     {
         let first = self.first.take();
+        if self.second.is_none() {
+            return first;
+        }
         self.first = self.second.take();
+        if self.third.is_none() {
+            return first;
+        }
         self.second = self.third.take();
+        if self.fourth.is_none() {
+            return first;
+        }
         self.third = self.fourth.take();
         first
     }

@@ -11,7 +11,6 @@ mod descriptor;
 mod firing;
 mod flags;
 mod four;
-mod laws;
 mod load;
 mod part;
 mod stripe;
@@ -21,7 +20,6 @@ pub use calls::{
     ReportReply, ShutList, StripeCall, WithdrawReply,
 };
 pub use four::Four;
-pub use laws::a_legal_reply_is_in_kind;
 pub use load::{Load, Payload};
 pub use stripe::Stripe;
 

@@ -2,7 +2,7 @@
 ghost use Rattle.std.specs.Prelude.{◌∷◌, [], map};
 ghost use Rattle.reg_keys.specs.Histories.{past_of};
 ghost use Rattle.stripe_table.specs.Stands.{Stands};
-ghost use Rattle.stripe_table.specs.Calls.{entry_of, call_may};
+ghost use Rattle.stripe_table.specs.Calls.{entry_of, call_may, IsAnswerTo};
 ghost use Rattle.reg_keys.specs.declared.entry.Entry.{Entry};
 
 use crate::calls::{Reply, StripeCall};
@@ -26,6 +26,8 @@ impl<T: Load> Part for Stripe<T> {
     ghost may = { λ n call. call_may n call };
 
     ghost entry = { λ call reply. entry_of T.tag call reply };
+
+    ghost answers = { λ call reply. IsAnswerTo call reply };
 
     fn apply(&mut self, call: StripeCall<T>) -> Reply<T> {
         match call {

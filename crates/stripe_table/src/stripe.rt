@@ -12,7 +12,7 @@ use crate::descriptor::OpenDescriptor;
 use crate::firing::shut_all;
 use crate::flags::{FlagState, Flags};
 use crate::load::{Load, Payload};
-use reg_keys::{Dir, Dirs, Event, Key, LAST_COUNT, Opening};
+use reg_keys::{Dir, Dirs, Event, Key, LAST_COUNT, Opening, STRIPE_DESCRIPTORS, STRIPES};
 use std::alloc::{AllocError, Global};
 
 /// A stripe: its descriptors, and its flags that haven't been asked to their end.
@@ -65,7 +65,7 @@ impl<T: Load> Stripe<T> {
         ensures there { IfSome result (λ i. (i ≡ o.now.fd / 32) × (d : OpenDescriptor T) × (slice_get self.now.descriptors.items i ≡ Some (Some d)) × (d.number ≡ o.now.number)) }
         ensures absent { IfNone result ((d : OpenDescriptor T) → slice_get self.now.descriptors.items (o.now.fd / 32) ≡ Some (Some d) → d.number ≢ o.now.number) }
     {
-        let place = o.fd as usize / 32;
+        let place = o.fd as usize / STRIPES as usize;
         if place >= self.descriptors.len() {
             return None;
         }
@@ -84,7 +84,7 @@ impl<T: Load> Stripe<T> {
         requires { self.now.count < 2 ^ 51 }
         ensures { result ≡ 32 * self.now.count + self.now.stripe }
     {
-        self.count * 32 + self.stripe as u64
+        self.count * STRIPES + self.stripe as u64
     }
 
     // Names an event for an opening where one is due, which is at this place.
@@ -114,7 +114,7 @@ impl<T: Load> Stripe<T> {
         requires fits { (past : List Entry) × Fits T.tag past self.old }
         ensures { (past : List Entry) → Fits T.tag past self.old → Step T.tag past (Entries.Open fd (opened result)) self.old self.new }
     {
-        let place = fd as usize / 32;
+        let place = fd as usize / STRIPES as usize;
         if let Some(descriptor) = &self.descriptors[place] {
             return OpenReply::Taken(Opening {
                 number: descriptor.number,
@@ -312,9 +312,9 @@ fn has_key<T: Drop>(kept: &Option<OpenDescriptor<T>>, key: u64) -> bool
 fn no_descriptors<T: Drop>(alloc: Global) -> Result<Vec<Option<OpenDescriptor<T>>>, AllocError>
     ensures { IfOk result (λ v. (length v.items ≡ 128) × (list_any is_some v.items ≡ false)) }
 {
-    let mut table = Vec::with_capacity(alloc, 128)?;
-    let mut made: usize = 0;
-    while made < 128 {
+    let mut table = Vec::with_capacity(alloc, STRIPE_DESCRIPTORS as usize)?;
+    let mut made: u64 = 0;
+    while made < STRIPE_DESCRIPTORS {
         table.push(None)?;
         made += 1;
     }
