@@ -1,4 +1,4 @@
--- The media type of a file, by the ending of its path.
+-- To be believed: the media type of a file, by the ending of its path.
 use Rattle.std.specs.Prelude.{ℕ, ◌==◌, Bool, List, [], ◌∷◌, map, Option, Some, None, codes, if◌then◌else◌}
 use Rattle.std.specs.List.{list_any, after_last}
 use Rattle.std.specs.Str.{bytes_eq}

@@ -1,3 +1,4 @@
+pub mod LimitsAndWords
 pub mod ContentType
 pub mod Target
 pub mod Route

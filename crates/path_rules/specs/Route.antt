@@ -1,4 +1,4 @@
--- The path of a file that a target stands for (RFC 3986, sections 2.1 and 3.3).
+-- To be believed: the path of a file that a target stands for (RFC 3986, sections 2.1 and 3.3).
 use Rattle.std.specs.Prelude.{ℕ, ◌==◌, Bool, true, false, not, ◌&&◌, ◌||◌, nat_le, List, [], ◌∷◌, ◌++◌, length, drop, map, Option, Some, None, option_map, codes, slice_range, if◌then◌else◌}
 use Rattle.std.specs.List.{slice_split, join_with_byte, list_all, list_any}
 use Rattle.std.specs.Str.{is_utf8}
@@ -7,10 +7,10 @@ use Rattle.path_rules.specs.declared.target.Form.{Form}
 use Rattle.path_rules.specs.declared.target.Form.TheVariants.{Origin, Absolute, Neither}
 use Rattle.path_rules.specs.declared.routes.Route.{Route}
 use Rattle.path_rules.specs.declared.routes.Route.TheVariants as found
+use Rattle.path_rules.specs.LimitsAndWords.{longest_name, longest_path, index_name}
 use Rattle.path_rules.specs.Target.{is_slash, form_of, raw_path_of}
 
--- what a target stands for: nothing that is served, the index of a folder, or a path. Each path leads from the folder
--- that is served to a file, and is a list of names joined with `/`
+-- what a target stands for: nothing that is served, the index of a folder, or a path; each is names joined with `/`
 pub data RouteOf : Type 0 where
   not_found : RouteOf
   index : List ℕ → RouteOf
@@ -29,10 +29,9 @@ is_hidden (b ∷ bs) = b == 46
 abbrev pub is_forbidden : ℕ → Bool
 is_forbidden b = b == 0 || b == 47 || b == 92
 
--- a decoded segment is the name of a file or a folder: it has at most 255 bytes, is UTF-8, doesn't begin with `.` and
--- holds no forbidden byte
+-- a decoded segment is the name of a file or a folder: at most 255 bytes of UTF-8, no `.` first, and no forbidden byte
 unfoldable pub is_name : List ℕ → Bool
-is_name name = nat_le (length name) 255 && is_utf8 name && not (is_hidden name) && not (list_any is_forbidden name)
+is_name name = nat_le (length name) longest_name && is_utf8 name && not (is_hidden name) && not (list_any is_forbidden name)
 
 -- each segment but the last has a byte
 abbrev pub is_full_to_last : List (List ℕ) → Bool
@@ -53,13 +52,13 @@ joined segments = join_with_byte 47 (map percent_decode segments)
 -- the segments are those of a path that can be served
 unfoldable pub can_be_served : List (List ℕ) → Bool
 can_be_served segments =
-    is_full_to_last segments && list_all is_name (map percent_decode segments) && nat_le (length (joined segments)) 3900
+    is_full_to_last segments && list_all is_name (map percent_decode segments) && nat_le (length (joined segments)) longest_path
 
 -- what the segments of a raw path stand for
 unfoldable pub route_in : List (List ℕ) → RouteOf
 route_in segments =
     if can_be_served segments
-    then (if ends_empty segments then index (joined segments ++ codes "index.html") else path (joined segments))
+    then (if ends_empty segments then index (joined segments ++ index_name) else path (joined segments))
     else not_found
 
 -- an authority with nothing behind it has the path `/`

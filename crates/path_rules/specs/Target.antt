@@ -1,8 +1,9 @@
--- The parts of a target (RFC 9112, section 3.2): where its raw path and its query stand.
-use Rattle.std.specs.Prelude.{ℕ, ◌+◌, ◌==◌, Bool, false, ◌&&◌, ◌||◌, nat_lt, List, [], ◌∷◌, length, drop, take, map, Option, Some, None, codes, if◌then◌else◌}
+-- To be believed: the form of a target, and where its raw path and its query stand (RFC 9112, section 3.2).
+use Rattle.std.specs.Prelude.{ℕ, ◌+◌, ◌==◌, Bool, true, false, ◌&&◌, ◌||◌, nat_lt, List, [], ◌∷◌, length, drop, take, map, Option, Some, None, if◌then◌else◌}
 use Rattle.std.specs.List.{position_or_len}
 use Rattle.std.specs.Str.{bytes_eq}
 use Rattle.std.specs.Char.{to_ascii_lowercase}
+use Rattle.path_rules.specs.LimitsAndWords.{http, https}
 use Rattle.path_rules.specs.declared.target.Form.{Form}
 use Rattle.path_rules.specs.declared.target.Form.TheVariants.{Origin, Absolute, Neither}
 
@@ -26,7 +27,7 @@ authority_end target start = start + position_or_len ends_authority (drop start 
 abbrev pub path_end : List ℕ → ℕ → ℕ
 path_end target start = start + position_or_len is_question_mark (drop start target)
 
--- the target begins with `/`
+-- the target begins with `/` (RFC 9112, section 3.2.1)
 abbrev pub begins_with_slash : List ℕ → Bool
 begins_with_slash [] = false
 begins_with_slash (b ∷ bs) = is_slash b
@@ -35,7 +36,7 @@ begins_with_slash (b ∷ bs) = is_slash b
 abbrev pub has_scheme : List ℕ → List ℕ → Bool
 has_scheme target scheme = bytes_eq (map to_ascii_lowercase (take (length scheme) target)) (map to_ascii_lowercase scheme)
 
--- the place behind a scheme that an authority of at least one byte follows
+-- the place after a scheme that an authority of at least one byte follows (RFC 9112, section 3.2.2)
 unfoldable pub behind_scheme : List ℕ → List ℕ → Option ℕ
 behind_scheme target scheme =
     if has_scheme target scheme && nat_lt (length scheme) (authority_end target (length scheme))
@@ -53,7 +54,13 @@ unfoldable pub form_of : List ℕ → Form
 form_of target =
     if begins_with_slash target
     then Origin
-    else absolute_by (behind_scheme target (codes "http://")) (behind_scheme target (codes "https://"))
+    else absolute_by (behind_scheme target http) (behind_scheme target https)
+
+-- a target of this form has a path
+abbrev pub has_path : Form → Bool
+has_path Origin = true
+has_path (Absolute authority) = true
+has_path Neither = false
 
 -- the span of the raw path in a target of a form
 abbrev pub raw_path_in : List ℕ → Form → ℕ × ℕ

@@ -1,6 +1,7 @@
--- What segments stand for where some folders have been written already.
-use Rattle.std.specs.Prelude.{◌≡◌, ℕ, ◌+◌, ◌<◌, ◌∷◌, Bool, not, ◌&&◌, nat_le, List, ◌++◌, length, map, codes, if◌then◌else◌}
+-- Inner: what segments stand for where some folders have been written already.
+use Rattle.std.specs.Prelude.{◌≡◌, ℕ, ◌+◌, ◌<◌, ◌∷◌, Bool, not, ◌&&◌, nat_le, List, ◌++◌, length, map, if◌then◌else◌}
 use Rattle.std.specs.List.{list_all, slice_split}
+use Rattle.path_rules.specs.LimitsAndWords.{longest_path, index_name}
 use Rattle.path_rules.specs.Target.{is_slash}
 use Rattle.percent_encoding.specs.Percent.{percent_decode}
 use Rattle.path_rules.specs.Route.{RouteOf, not_found, index, path, is_empty, is_full_to_last, is_name, ends_empty, joined}
@@ -8,8 +9,8 @@ use Rattle.path_rules.specs.Route.{RouteOf, not_found, index, path, is_empty, is
 -- what segments stand for behind a written path
 unfoldable pub route_behind : List ℕ → List (List ℕ) → RouteOf
 route_behind written segments =
-    if is_full_to_last segments && list_all is_name (map percent_decode segments) && nat_le (length (written ++ joined segments)) 3900
-    then (if ends_empty segments then index ((written ++ joined segments) ++ codes "index.html") else path (written ++ joined segments))
+    if is_full_to_last segments && list_all is_name (map percent_decode segments) && nat_le (length (written ++ joined segments)) longest_path
+    then (if ends_empty segments then index ((written ++ joined segments) ++ index_name) else path (written ++ joined segments))
     else not_found
 
 -- a segment can follow so many written bytes as a folder, with a `/` behind it

@@ -26,4 +26,4 @@ pub use content_types::content_type;
 pub use path_buf::PathBuf8;
 pub use paths::route;
 pub use routes::Route;
-pub use target::{query, raw_path};
+pub use target::{Form, form_of, query, raw_path};

@@ -4,8 +4,8 @@ ghost use Rattle.std.specs.Prelude.{◌≡◌, ◌≤◌, ◌+◌, ◌++◌, ◌
 use std::alloc::{AllocError, Global};
 use std::marker::Model;
 
-/// Bytes of the buffer.
-pub(crate) const ROOM: usize = 8_192;
+/// Bytes of the buffer, which are more than any path has.
+pub(crate) const PATH_BYTES: usize = 8_192;
 
 /// A path as text, in a buffer of 8,192 bytes.
 #[derive(Drop)]
@@ -15,13 +15,13 @@ pub struct PathBuf8 {
 
 impl Model for PathBuf8 {
     ghost use Rattle.std.specs.Prelude.{◌≤◌, ℕ, List, string_bytes, string_len, string_capacity};
-    ghost use Rattle.path_rules.specs.declared.path_buf.TheConstants.{ROOM};
+    ghost use Rattle.path_rules.specs.declared.path_buf.TheConstants.{PATH_BYTES};
 
     ghost Value = { List ℕ };
 
     ghost view = { λ a. string_bytes a.held };
 
-    ghost invariant = { λ a. (string_len a.held ≤ ROOM) × (ROOM ≤ string_capacity a.held) };
+    ghost invariant = { λ a. (string_len a.held ≤ PATH_BYTES) × (PATH_BYTES ≤ string_capacity a.held) };
 }
 
 impl PathBuf8 {
@@ -29,7 +29,7 @@ impl PathBuf8 {
     pub fn new(alloc: Global) -> Result<PathBuf8, AllocError>
         ensures { IfOk result (λ path. path ≡ []) }
     {
-        let held = String::with_capacity(alloc, ROOM)?;
+        let held = String::with_capacity(alloc, PATH_BYTES)?;
         Ok(PathBuf8 { held })
     }
 
@@ -43,7 +43,7 @@ impl PathBuf8 {
     /// Bytes of the path.
     pub fn len(&self) -> usize
         ensures is { result ≡ length self.now }
-        ensures bound { result ≤ ROOM }
+        ensures bound { result ≤ PATH_BYTES }
     {
         self.held.len()
     }
@@ -57,9 +57,9 @@ impl PathBuf8 {
 
     /// Writes the piece behind what is there. `false` says that it doesn't fit, and then nothing has changed.
     pub fn add(&mut self, piece: &str) -> bool
-        ensures fits { IsTrue result ↔ (length self.old + length piece.now ≤ ROOM) }
+        ensures fits { IsTrue result ↔ (length self.old + length piece.now ≤ PATH_BYTES) }
         ensures added { self.new ≡ (if result then self.old ++ piece.now else self.old) }
     {
-        piece.len() <= ROOM - self.held.len() && self.held.push_str(piece).is_ok()
+        piece.len() <= PATH_BYTES - self.held.len() && self.held.push_str(piece).is_ok()
     }
 }

@@ -7,7 +7,7 @@ ghost use Rattle.path_rules.specs.Route.{is_name, is_hidden, is_forbidden};
 ghost use Rattle.path_rules.specs.Target.{is_slash};
 ghost use Rattle.path_rules.specs.Walk.{can_follow, IsFirstOf};
 
-use crate::path_buf::{PathBuf8, ROOM};
+use crate::path_buf::{PATH_BYTES, PathBuf8};
 use memchr::memchr;
 use percent_encoding::percent_decode;
 
@@ -72,7 +72,7 @@ fn holds_forbidden(name: &[u8]) -> bool
 /// Writes a segment, decoded, behind the path. `false` says that it is no name or doesn't fit, and then the path is as
 /// it was.
 pub(crate) fn add_segment(segment: &[u8], out: &mut PathBuf8) -> bool
-    ensures is { result ≡ (is_name (decoded segment.now) && nat_le (length out.old + length (decoded segment.now)) ROOM) }
+    ensures is { result ≡ (is_name (decoded segment.now) && nat_le (length out.old + length (decoded segment.now)) PATH_BYTES) }
     ensures added { out.new ≡ (if result then out.old ++ decoded segment.now else out.old) }
 {
     let mut bytes = [0u8; LONGEST_NAME];

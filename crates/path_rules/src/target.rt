@@ -8,28 +8,33 @@ use memchr::{memchr, memchr2};
 
 /// The forms of targets that have a path.
 #[derive(Clone, Copy, Debug, PartialEq, Eq)]
-pub(crate) enum Form {
-    /// The target begins with `/`.
+pub enum Form {
+    /// The target begins with `/` (RFC 9112, section 3.2.1).
     Origin,
-    /// The target begins with `http://` or `https://` and an authority, which begins at this place.
+    /// The target begins with `http://` or `https://` and an authority, which begins at this place
+    /// (RFC 9112, section 3.2.2).
     Absolute(usize),
     /// Any other target.
     Neither,
 }
 
-/// The form of a target.
+const HTTP: &[u8] = b"http://";
+
+const HTTPS: &[u8] = b"https://";
+
+/// The form of a target: whether it has a path, and where.
 #[tactic(auto, unfolding(crate::specs::Target::form_of))]
-pub(crate) fn form_of(target: &[u8]) -> Form
+pub fn form_of(target: &[u8]) -> Form
     ensures is { result ≡ form_of target.now }
     ensures within { (authority : ℕ) → result ≡ Form.Absolute authority → authority ≤ length target.now }
 {
     if begins_with_slash(target) {
         return Form::Origin;
     }
-    if let Some(authority) = behind_scheme(target, b"http://") {
+    if let Some(authority) = behind_scheme(target, HTTP) {
         return Form::Absolute(authority);
     }
-    match behind_scheme(target, b"https://") {
+    match behind_scheme(target, HTTPS) {
         Some(authority) => Form::Absolute(authority),
         None => Form::Neither,
     }

@@ -6,8 +6,8 @@ use Rattle.std.proofs.lemmas.Bool.{cases_lt}
 use Rattle.std.proofs.lemmas.Bool.Decides.{nat_tests}
 use Rattle.std.proofs.lemmas.List.{drop_all, take_all, take-append-le, drop-append-le}
 use Rattle.std.proofs.Math.Seq.{take-append-add}
-use Rattle.warp_request.specs.declared.limits.TheConstants.{BODY_LIMIT}
-use Rattle.warp_request.specs.declared.status.TheConstants.{BAD_REQUEST, CONTENT_TOO_LARGE, FIELDS_TOO_LARGE}
+use Rattle.warp_request.specs.LimitsAndWords.{body_limit}
+use Rattle.warp_response.specs.Statuses.{bad_request, content_too_large, header_fields_too_large}
 use Rattle.warp_request.specs.declared.verdict.Framing.{Framing}
 use Rattle.warp_request.specs.declared.verdict.Framing.TheVariants as Framings
 use Rattle.warp_request.specs.Body.{BodyVerdict, more, whole, Part, cut, wrong, past, behind_content, behind_digits, behind_extension, behind_line, body_of, capped, chunk_line, chunked, chunks, is_extension_byte, is_hex, line_end, line_of, number_of, opens_extension, section_of, trailers, verdict_of}
@@ -27,13 +27,13 @@ line_end_grows n [] t settled = absurd (settled refl)
 line_end_grows n (b ∷ []) t settled = last (b == 13) refl
   where
     last : (r : Bool) → (b == 13) ≡ r → line_end n (b ∷ t) ≡ grown t (line_end n (b ∷ []))
-    last true e = absurd (settled (ap (λ (c : Bool). cond c cut (wrong BAD_REQUEST)) e))
+    last true e = absurd (settled (ap (λ (c : Bool). cond c cut (wrong bad_request)) e))
     last false e =
         let other : b ≢ 13 = grind (arith, nat_tests) in
-        line_end_wrong n b t other ∙ sym (ap (λ (c : Bool). grown t (cond c cut (wrong BAD_REQUEST))) e)
+        line_end_wrong n b t other ∙ sym (ap (λ (c : Bool). grown t (cond c cut (wrong bad_request))) e)
 line_end_grows n (b ∷ c ∷ s) t settled = two (b == 13 && c == 10)
   where
-    two : (r : Bool) → cond r (past n (s ++ t)) (wrong BAD_REQUEST) ≡ grown t (cond r (past n s) (wrong BAD_REQUEST))
+    two : (r : Bool) → cond r (past n (s ++ t)) (wrong bad_request) ≡ grown t (cond r (past n s) (wrong bad_request))
     two true = refl
     two false = refl
 
@@ -97,15 +97,15 @@ line_grows s t settled = by (nat_lt 8 n) refl (cases_lt n (length s))
         let same = prefix_stays is_hex s t less in
         let front : take n (s ++ t) ≡ take n s = take-append-le n s t (omega (arith, less)) in
         let back : drop n (s ++ t) ≡ drop n s ++ t = drop-append-le n s t (omega (arith, less)) in
-        let some : behind_digits (take n s) (drop n s) ≢ cut = λ none. settled (ap (λ (c : Bool). cond c (wrong BAD_REQUEST) (behind_digits (take n s) (drop n s))) e ∙ none) in
-        ap (λ m. cond (nat_lt 8 m) (wrong BAD_REQUEST) (behind_digits (take m (s ++ t)) (drop m (s ++ t)))) same
-        ∙ ap (λ (c : Bool). cond c (wrong BAD_REQUEST) (behind_digits (take n (s ++ t)) (drop n (s ++ t)))) e
+        let some : behind_digits (take n s) (drop n s) ≢ cut = λ none. settled (ap (λ (c : Bool). cond c (wrong bad_request) (behind_digits (take n s) (drop n s))) e ∙ none) in
+        ap (λ m. cond (nat_lt 8 m) (wrong bad_request) (behind_digits (take m (s ++ t)) (drop m (s ++ t)))) same
+        ∙ ap (λ (c : Bool). cond c (wrong bad_request) (behind_digits (take n (s ++ t)) (drop n (s ++ t)))) e
         ∙ ap (λ (u : List ℕ). behind_digits u (drop n (s ++ t))) front
         ∙ ap (λ (u : List ℕ). behind_digits (take n s) u) back
         ∙ digits_grow (take n s) (drop n s) t some
-        ∙ sym (ap (λ (c : Bool). grown t (cond c (wrong BAD_REQUEST) (behind_digits (take n s) (drop n s)))) e)
+        ∙ sym (ap (λ (c : Bool). grown t (cond c (wrong bad_request) (behind_digits (take n s) (drop n s)))) e)
     by false e (inr all) =
-        let read = ap (λ (c : Bool). cond c (wrong BAD_REQUEST) (behind_digits (take n s) (drop n s))) e in
+        let read = ap (λ (c : Bool). cond c (wrong bad_request) (behind_digits (take n s) (drop n s))) e in
         let none = ap (λ (u : List ℕ). behind_digits (take n s) u) (drop_all n s all) ∙ digits_nil (take n s) in
         absurd (settled (read ∙ none))
 
@@ -114,7 +114,7 @@ unfolding section_of
 section_grows fresh [] t settled = absurd (settled refl)
 section_grows fresh (b ∷ []) t settled = by (b == 13) (b == 10 || b == 0) t refl refl settled
   where
-    by : (r z : Bool) (t : List ℕ) → (b == 13) ≡ r → (b == 10 || b == 0) ≡ z → cond r cut (cond z (wrong BAD_REQUEST) cut) ≢ cut
+    by : (r z : Bool) (t : List ℕ) → (b == 13) ≡ r → (b == 10 || b == 0) ≡ z → cond r cut (cond z (wrong bad_request) cut) ≢ cut
         → section_of fresh (b ∷ t) ≡ grown t (section_of fresh (b ∷ []))
     by true z t e f settled = absurd (settled refl)
     by false false t e f settled = absurd (settled refl)
@@ -125,9 +125,9 @@ section_grows fresh (b ∷ c ∷ s) t settled =
   where
     by : (r f fresh z : Bool) → (section_of true s ≢ cut → section_of true (s ++ t) ≡ grown t (section_of true s))
         → (section_of false (c ∷ s) ≢ cut → section_of false (c ∷ s ++ t) ≡ grown t (section_of false (c ∷ s)))
-        → cond r (cond f (cond fresh (past 0 s) (section_of true s)) (wrong BAD_REQUEST)) (cond z (wrong BAD_REQUEST) (section_of false (c ∷ s))) ≢ cut
-        → cond r (cond f (cond fresh (past 0 (s ++ t)) (section_of true (s ++ t))) (wrong BAD_REQUEST)) (cond z (wrong BAD_REQUEST) (section_of false (c ∷ s ++ t)))
-        ≡ grown t (cond r (cond f (cond fresh (past 0 s) (section_of true s)) (wrong BAD_REQUEST)) (cond z (wrong BAD_REQUEST) (section_of false (c ∷ s))))
+        → cond r (cond f (cond fresh (past 0 s) (section_of true s)) (wrong bad_request)) (cond z (wrong bad_request) (section_of false (c ∷ s))) ≢ cut
+        → cond r (cond f (cond fresh (past 0 (s ++ t)) (section_of true (s ++ t))) (wrong bad_request)) (cond z (wrong bad_request) (section_of false (c ∷ s ++ t)))
+        ≡ grown t (cond r (cond f (cond fresh (past 0 s) (section_of true s)) (wrong bad_request)) (cond z (wrong bad_request) (section_of false (c ∷ s))))
     by true true true z line on settled = refl
     by true true false z line on settled = line settled
     by true false fresh z line on settled = refl
@@ -183,10 +183,10 @@ capped_grows limit code R grows s t = go (cases_lt (length s) limit)
         ∙ sym (ap (λ (w : List ℕ). grown t (capped limit code s w (R w))) same)
 
 chunk_line_grows : (s t : List ℕ) → chunk_line s ≢ cut → chunk_line (s ++ t) ≡ grown t (chunk_line s)
-chunk_line_grows s t settled = capped_grows 256 BAD_REQUEST line_of line_grows s t settled
+chunk_line_grows s t settled = capped_grows 256 bad_request line_of line_grows s t settled
 
 trailers_grow : (s t : List ℕ) → trailers s ≢ cut → trailers (s ++ t) ≡ grown t (trailers s)
-trailers_grow s t settled = capped_grows 4096 FIELDS_TOO_LARGE (section_of true) (section_grows true) s t settled
+trailers_grow s t settled = capped_grows 4096 header_fields_too_large (section_of true) (section_grows true) s t settled
 
 -- ---- chunks
 
@@ -204,7 +204,7 @@ content_short next size s short = ap (λ (u : List ℕ). behind_content next (li
 
 line_behind_grows : (next : ℕ → List ℕ → Part) → ((sum : ℕ) (s t : List ℕ) → next sum s ≢ cut → next sum (s ++ t) ≡ grown t (next sum s)) → (sum size : ℕ) (s t : List ℕ)
     → behind_line next sum (past size s) ≢ cut → behind_line next sum (past size (s ++ t)) ≡ grown t (behind_line next sum (past size s))
-line_behind_grows next grows sum size s t = by (nat_lt BODY_LIMIT (sum + size)) (size == 0)
+line_behind_grows next grows sum size s t = by (nat_lt body_limit (sum + size)) (size == 0)
   where
     content : List ℕ → Part
     content u = behind_content (next (sum + size)) (line_end 0 (drop size u))
@@ -217,9 +217,9 @@ line_behind_grows next grows sum size s t = by (nat_lt BODY_LIMIT (sum + size)) 
     in_content (inr all) settled = absurd (settled (content_short (next (sum + size)) size s all))
 
     by : (large last : Bool)
-        → cond large (wrong CONTENT_TOO_LARGE) (cond last (trailers s) (behind_content (next (sum + size)) (line_end 0 (drop size s)))) ≢ cut
-        → cond large (wrong CONTENT_TOO_LARGE) (cond last (trailers (s ++ t)) (behind_content (next (sum + size)) (line_end 0 (drop size (s ++ t)))))
-        ≡ grown t (cond large (wrong CONTENT_TOO_LARGE) (cond last (trailers s) (behind_content (next (sum + size)) (line_end 0 (drop size s)))))
+        → cond large (wrong content_too_large) (cond last (trailers s) (behind_content (next (sum + size)) (line_end 0 (drop size s)))) ≢ cut
+        → cond large (wrong content_too_large) (cond last (trailers (s ++ t)) (behind_content (next (sum + size)) (line_end 0 (drop size (s ++ t)))))
+        ≡ grown t (cond large (wrong content_too_large) (cond last (trailers s) (behind_content (next (sum + size)) (line_end 0 (drop size s)))))
     by true last settled = refl
     by false true settled = trailers_grow s t settled
     by false false settled = in_content (cases_lt size (length s)) settled
@@ -243,12 +243,12 @@ chunks_grow (suc left) sum s t settled = line_grows_behind (chunks left) (chunks
 chunked_stays : (s t : List ℕ) (p : Part) (v : BodyVerdict) → chunked s ≡ p → verdict_of (length s) p ≡ v → v ≢ more → verdict_of (length (s ++ t)) (chunked (s ++ t)) ≡ v
 chunked_stays s t cut v e is settled = absurd (settled (sym is))
 chunked_stays s t (wrong code) v e is settled =
-    ap (λ (p : Part). verdict_of (length (s ++ t)) p) (chunks_grow (BODY_LIMIT + 1) 0 s t (λ none. let same = sym e ∙ none in absurd cc) ∙ ap (grown t) e) ∙ is
+    ap (λ (p : Part). verdict_of (length (s ++ t)) p) (chunks_grow (body_limit + 1) 0 s t (λ none. let same = sym e ∙ none in absurd cc) ∙ ap (grown t) e) ∙ is
 chunked_stays s t (past n rest) v e is settled =
     let one = length-append s t in
     let two = length-append rest t in
     let count : length (s ++ t) - length (rest ++ t) ≡ length s - length rest = omega (arith, one, two) in
-    ap (λ (p : Part). verdict_of (length (s ++ t)) p) (chunks_grow (BODY_LIMIT + 1) 0 s t (λ none. let same = sym e ∙ none in absurd cc) ∙ ap (grown t) e)
+    ap (λ (p : Part). verdict_of (length (s ++ t)) p) (chunks_grow (body_limit + 1) 0 s t (λ none. let same = sym e ∙ none in absurd cc) ∙ ap (grown t) e)
     ∙ ap whole count ∙ is
 
 -- the law: a body that is settled stays

@@ -6,7 +6,7 @@ use Rattle.std.proofs.lemmas.Bool.Decides.{nat_tests}
 use Rattle.std.proofs.lemmas.List.{append-nil, drop_all, take_all}
 use Rattle.std.proofs.lemmas.List.Sums.{fold-append}
 use Rattle.std.proofs.Math.Seq.{drop-append-add, drop-append_seam, take-append-add, take-append_seam}
-use Rattle.warp_request.specs.declared.status.TheConstants.{BAD_REQUEST}
+use Rattle.warp_response.specs.Statuses.{bad_request}
 use Rattle.warp_request.specs.Body.{Part, cut, wrong, past, behind_digits, behind_extension, capped, hex_digit, is_extension_byte, is_hex, line_end, line_of, number_of, opens_extension, section_of, with_digit}
 
 -- ---- a part within its first bytes
@@ -99,14 +99,14 @@ digits_end line u b all none few =
     let counted = prefix_behind is_hex line (b ∷ u) all in
     let n_is : prefix_len is_hex s ≡ length line = omega (arith, counted, stops) in
     let in_limit : nat_lt 8 (length line) ≡ false = grind (arith, nat_tests) in
-    ap (λ n. cond (nat_lt 8 n) (wrong BAD_REQUEST) (behind_digits (take n s) (drop n s))) n_is
-    ∙ ap (λ (c : Bool). cond c (wrong BAD_REQUEST) (behind_digits (take (length line) s) (drop (length line) s))) in_limit
+    ap (λ n. cond (nat_lt 8 n) (wrong bad_request) (behind_digits (take n s) (drop n s))) n_is
+    ∙ ap (λ (c : Bool). cond c (wrong bad_request) (behind_digits (take (length line) s) (drop (length line) s))) in_limit
     ∙ ap (λ (x : List ℕ). behind_digits x (drop (length line) s)) (take-append_seam line (b ∷ u))
     ∙ ap (λ (x : List ℕ). behind_digits line x) (drop-append_seam line (b ∷ u))
 
 -- a ninth digit is one too many
 pub digits_many : (line u : List ℕ) (b d : ℕ) → list_all is_hex line ≡ true → hex_digit b ≡ Some d → length line ≡ 8
-    → line_of (line ++ b ∷ u) ≡ wrong BAD_REQUEST
+    → line_of (line ++ b ∷ u) ≡ wrong bad_request
 unfolding line_of
 digits_many line u b d all some full =
     let s = line ++ b ∷ u in
@@ -114,7 +114,7 @@ digits_many line u b d all some full =
     let counted = prefix_behind is_hex line (b ∷ u) all in
     let above : 8 < prefix_len is_hex s = omega (arith, counted, goes, full) in
     let over : nat_lt 8 (prefix_len is_hex s) ≡ true = grind (arith, nat_tests) in
-    ap (λ (c : Bool). cond c (wrong BAD_REQUEST) (behind_digits (take (prefix_len is_hex s) s) (drop (prefix_len is_hex s) s))) over
+    ap (λ (c : Bool). cond c (wrong bad_request) (behind_digits (take (prefix_len is_hex s) s) (drop (prefix_len is_hex s) s))) over
 
 -- digits that nothing follows yet are waited for
 pub digits_nil : (digits : List ℕ) → behind_digits digits [] ≡ cut
@@ -129,13 +129,13 @@ digits_cut line all few =
     let counted = prefix_behind is_hex line [] all in
     let n_is : prefix_len is_hex line ≡ length line = ap (λ (x : List ℕ). prefix_len is_hex x) (sym (append-nil line)) ∙ counted ∙ omega arith in
     let in_limit : nat_lt 8 (length line) ≡ false = grind (arith, nat_tests) in
-    ap (λ n. cond (nat_lt 8 n) (wrong BAD_REQUEST) (behind_digits (take n line) (drop n line))) n_is
-    ∙ ap (λ (c : Bool). cond c (wrong BAD_REQUEST) (behind_digits (take (length line) line) (drop (length line) line))) in_limit
+    ap (λ n. cond (nat_lt 8 n) (wrong bad_request) (behind_digits (take n line) (drop n line))) n_is
+    ∙ ap (λ (c : Bool). cond c (wrong bad_request) (behind_digits (take (length line) line) (drop (length line) line))) in_limit
     ∙ ap (λ (x : List ℕ). behind_digits (take (length line) line) x) (drop_all (length line) line (omega arith))
     ∙ digits_nil (take (length line) line)
 
 -- a line that begins with no digit is refused
-pub digits_none : (b : ℕ) (u : List ℕ) → behind_digits [] (b ∷ u) ≡ wrong BAD_REQUEST
+pub digits_none : (b : ℕ) (u : List ℕ) → behind_digits [] (b ∷ u) ≡ wrong bad_request
 unfolding behind_digits
 digits_none b u = refl
 
@@ -149,20 +149,20 @@ digits_some (d ∷ line) u b n some means =
 
 -- ---- the end of a line
 
-pub line_end_wrong : (n b : ℕ) (u : List ℕ) → b ≢ 13 → line_end n (b ∷ u) ≡ wrong BAD_REQUEST
+pub line_end_wrong : (n b : ℕ) (u : List ℕ) → b ≢ 13 → line_end n (b ∷ u) ≡ wrong bad_request
 unfolding line_end
 line_end_wrong n b [] other =
     let no_return : (b == 13) ≡ false = grind (arith, nat_tests) in
-    ap (λ (c : Bool). cond c cut (wrong BAD_REQUEST)) no_return
+    ap (λ (c : Bool). cond c cut (wrong bad_request)) no_return
 line_end_wrong n b (c ∷ u) other =
     let no_return : (b == 13) ≡ false = grind (arith, nat_tests) in
-    ap (λ (x : Bool). cond (x && (c == 10)) (past n u) (wrong BAD_REQUEST)) no_return
+    ap (λ (x : Bool). cond (x && (c == 10)) (past n u) (wrong bad_request)) no_return
 
-pub line_end_no_feed : (n b : ℕ) (u : List ℕ) → b ≢ 10 → line_end n (13 ∷ b ∷ u) ≡ wrong BAD_REQUEST
+pub line_end_no_feed : (n b : ℕ) (u : List ℕ) → b ≢ 10 → line_end n (13 ∷ b ∷ u) ≡ wrong bad_request
 unfolding line_end
 line_end_no_feed n b u other =
     let no_feed : (b == 10) ≡ false = grind (arith, nat_tests) in
-    ap (λ (c : Bool). cond c (past n u) (wrong BAD_REQUEST)) no_feed
+    ap (λ (c : Bool). cond c (past n u) (wrong bad_request)) no_feed
 
 pub line_end_past : (n : ℕ) (u : List ℕ) → line_end n (13 ∷ 10 ∷ u) ≡ past n u
 unfolding line_end
@@ -195,11 +195,11 @@ unfolding behind_extension
 extension_other b t other = ap (λ (c : Bool). cond c (behind_extension t) (b ∷ t)) other
 
 -- no byte of an extension ends its line
-pub extension_last : (n b : ℕ) → (line_end n (behind_extension (b ∷ [])) ≡ cut) ⊎ (line_end n (behind_extension (b ∷ [])) ≡ wrong BAD_REQUEST)
+pub extension_last : (n b : ℕ) → (line_end n (behind_extension (b ∷ [])) ≡ cut) ⊎ (line_end n (behind_extension (b ∷ [])) ≡ wrong bad_request)
 extension_last n b = by (is_extension_byte b) refl (b == 13) refl
   where
     by : (t : Bool) → is_extension_byte b ≡ t → (r : Bool) → (b == 13) ≡ r
-        → (line_end n (behind_extension (b ∷ [])) ≡ cut) ⊎ (line_end n (behind_extension (b ∷ [])) ≡ wrong BAD_REQUEST)
+        → (line_end n (behind_extension (b ∷ [])) ≡ cut) ⊎ (line_end n (behind_extension (b ∷ [])) ≡ wrong bad_request)
     by true e r f = inl (ap (λ (x : List ℕ). line_end n x) (extension_text b [] e ∙ extension_nil) ∙ line_end_nil n)
     by false e true f =
         let is : b ≡ 13 = grind (arith, nat_tests) in
@@ -223,21 +223,21 @@ section_text fresh b (c ∷ t) no_return no_feed no_nul =
     let z : (b == 0) ≡ false = grind (arith, nat_tests) in
     rw (r, f, z) refl
 
-pub section_feed : (fresh : Bool) (t : List ℕ) → section_of fresh (10 ∷ t) ≡ wrong BAD_REQUEST
+pub section_feed : (fresh : Bool) (t : List ℕ) → section_of fresh (10 ∷ t) ≡ wrong bad_request
 unfolding section_of
 section_feed fresh [] = refl
 section_feed fresh (c ∷ t) = refl
 
-pub section_nul : (fresh : Bool) (t : List ℕ) → section_of fresh (0 ∷ t) ≡ wrong BAD_REQUEST
+pub section_nul : (fresh : Bool) (t : List ℕ) → section_of fresh (0 ∷ t) ≡ wrong bad_request
 unfolding section_of
 section_nul fresh [] = refl
 section_nul fresh (c ∷ t) = refl
 
-pub section_no_feed : (fresh : Bool) (b : ℕ) (t : List ℕ) → b ≢ 10 → section_of fresh (13 ∷ b ∷ t) ≡ wrong BAD_REQUEST
+pub section_no_feed : (fresh : Bool) (b : ℕ) (t : List ℕ) → b ≢ 10 → section_of fresh (13 ∷ b ∷ t) ≡ wrong bad_request
 unfolding section_of
 section_no_feed fresh b t other =
     let f : (b == 10) ≡ false = grind (arith, nat_tests) in
-    ap (λ (c : Bool). cond c (cond fresh (past 0 t) (section_of true t)) (wrong BAD_REQUEST)) f
+    ap (λ (c : Bool). cond c (cond fresh (past 0 t) (section_of true t)) (wrong bad_request)) f
 
 pub section_line : (t : List ℕ) → section_of false (13 ∷ 10 ∷ t) ≡ section_of true t
 unfolding section_of

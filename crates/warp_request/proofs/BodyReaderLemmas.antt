@@ -6,17 +6,17 @@ use Rattle.std.proofs.lemmas.Grind.{common_steps}
 use Rattle.std.proofs.lemmas.List.{append-nil, take_all, take-append-drop}
 use Rattle.std.proofs.Math.Nat.{pow-le-pow_right, pow-suc}
 use Rattle.std.proofs.Math.Seq.{drop-append-add, drop-nil}
-use Rattle.warp_request.specs.declared.body_place.Place.{Place}
-use Rattle.warp_request.specs.declared.body_place.Place.TheVariants as Places
+use Rattle.warp_request.specs.declared.body_place.BodyPlace.{BodyPlace}
+use Rattle.warp_request.specs.declared.body_place.BodyPlace.TheVariants as Places
 use Rattle.warp_request.specs.declared.body_place.TrailerLine.{TrailerLine}
 use Rattle.warp_request.specs.declared.body_place.TrailerLine.TheVariants as Lines
 use Rattle.warp_request.specs.declared.body_reader.BodyState.TheVariants as States
-use Rattle.warp_request.specs.declared.limits.TheConstants.{BODY_LIMIT}
-use Rattle.warp_request.specs.declared.status.TheConstants.{BAD_REQUEST, CONTENT_TOO_LARGE, FIELDS_TOO_LARGE}
+use Rattle.warp_request.specs.LimitsAndWords.{body_limit}
+use Rattle.warp_response.specs.Statuses.{bad_request, content_too_large, header_fields_too_large}
 use Rattle.warp_request.specs.declared.verdict.Framing.{Framing}
 use Rattle.warp_request.specs.declared.verdict.Framing.TheVariants as Framings
 use Rattle.warp_request.specs.Body.{more, refused, whole, Part, cut, wrong, past, behind_content, behind_digits, behind_extension, behind_line, body_of, chunk_line, chunked, chunks, hex_digit, is_extension_byte, is_hex, line_end, line_of, opens_extension, section_of, trailers, verdict_of, with_digit}
-use Rattle.warp_request.specs.BodyReader.{HasChunks, InContent, InLine, InTrailers, IsDigits, LeavesOfLine, StandsAt, section_at, state_at, state_verdict}
+use Rattle.warp_request.specs.BodyReader.{HasChunks, InContent, InLine, InTrailers, IsDigits, LeavesOfLine, RepresentsAt, section_at, state_at, state_verdict}
 use Rattle.warp_request.proofs.BodyLemmas.{all_more, capped_cut, capped_full, capped_past, capped_wrong, digits_cut, digits_end, digits_many, digits_none, digits_some, extension_last, extension_nil, extension_other, extension_return, extension_text, line_end_nil, line_end_no_feed, line_end_past, line_end_return, line_end_wrong, number_more, section_nil, section_return}
 
 -- one byte behind those fed
@@ -71,9 +71,9 @@ pub first_line : (sum : ℕ) → sum ≡ 0 → InLine (IsDigits 0 0) sum []
 first_line sum none = record {
   before = [];
   line = [];
-  left = BODY_LIMIT;
+  left = body_limit;
   parts = refl;
-  chunks = record { goes_on = λ t. ap (λ (n : ℕ). chunks (suc BODY_LIMIT) n t) (sym none); enough = omega (arith, none); fits = omega (arith, none) };
+  chunks = record { goes_on = λ t. ap (λ (n : ℕ). chunks (suc body_limit) n t) (sym none); enough = omega (arith, none); fits = omega (arith, none) };
   holds = record { all = refl; counted = refl; few = omega arith; means = refl; small = omega arith };
 }
 
@@ -90,7 +90,7 @@ digit_below b d is = by (nat_le 48 b) refl (nat_le b 57) refl (nat_le 65 b) refl
 -- one more digit
 pub digit_more : (framing : Framing) (fed : List ℕ) (sum count number b d next : ℕ) → hex_digit b ≡ Some d → count < 8
     → next ≡ min (min (number * 16) 18446744073709551615 + d) 18446744073709551615
-    → StandsAt (Places.Size count number) sum framing fed → StandsAt (Places.Size (count + 1) next) sum framing (fed ++ b ∷ [])
+    → RepresentsAt (Places.Size count number) sum framing fed → RepresentsAt (Places.Size (count + 1) next) sum framing (fed ++ b ∷ [])
 digit_more framing fed sum count number b d next some few is (chunked_is, in_line) =
     let x = in_line.holds in
     let line = in_line.line in
@@ -121,13 +121,13 @@ digit_more framing fed sum count number b d next some few is (chunked_is, in_lin
 
 -- a ninth digit is refused
 pub digit_refused : (framing : Framing) (fed : List ℕ) (sum count number b d : ℕ) → hex_digit b ≡ Some d → 8 ≤ count
-    → StandsAt (Places.Size count number) sum framing fed → StandsAt (Places.Refused BAD_REQUEST) sum framing (fed ++ b ∷ [])
+    → RepresentsAt (Places.Size count number) sum framing fed → RepresentsAt (Places.Refused bad_request) sum framing (fed ++ b ∷ [])
 digit_refused framing fed sum count number b d some many (chunked_is, in_line) =
     let x = in_line.holds in
     let line = in_line.line in
     let full : length line ≡ 8 = omega (arith, x.counted, x.few, many) in
-    line_refused framing in_line.before line fed in_line.left sum b BAD_REQUEST chunked_is in_line.parts in_line.chunks
-    (λ t. capped_wrong 256 BAD_REQUEST BAD_REQUEST line t b line_of (omega (arith, full)) (λ u. digits_many line u b d x.all some full))
+    line_refused framing in_line.before line fed in_line.left sum b bad_request chunked_is in_line.parts in_line.chunks
+    (λ t. capped_wrong 256 bad_request bad_request line t b line_of (omega (arith, full)) (λ u. digits_many line u b d x.all some full))
 
 -- what the byte behind the digits leaves of the line
 number_leaves : (line : List ℕ) (count number b : ℕ) → IsDigits count number line → hex_digit b ≡ None → 1 ≤ count
@@ -137,19 +137,19 @@ number_leaves line count number b x none some u =
 
 -- a line that begins with no digit is refused
 pub number_none : (framing : Framing) (fed : List ℕ) (sum count number b : ℕ) → hex_digit b ≡ None → count ≡ 0
-    → StandsAt (Places.Size count number) sum framing fed → StandsAt (Places.Refused BAD_REQUEST) sum framing (fed ++ b ∷ [])
+    → RepresentsAt (Places.Size count number) sum framing fed → RepresentsAt (Places.Refused bad_request) sum framing (fed ++ b ∷ [])
 number_none framing fed sum count number b none zero_is (chunked_is, in_line) =
     let x = in_line.holds in
     let line = in_line.line in
     let short : length line ≤ 8 = omega (arith, x.counted, x.few) in
     let empty : line ≡ [] = sym (take_all 0 line (omega (arith, x.counted, zero_is))) in
-    line_refused framing in_line.before line fed in_line.left sum b BAD_REQUEST chunked_is in_line.parts in_line.chunks
-    (λ t. capped_wrong 256 BAD_REQUEST BAD_REQUEST line t b line_of (omega (arith, short))
+    line_refused framing in_line.before line fed in_line.left sum b bad_request chunked_is in_line.parts in_line.chunks
+    (λ t. capped_wrong 256 bad_request bad_request line t b line_of (omega (arith, short))
     (λ u. digits_end line u b x.all none short ∙ ap (λ (l : List ℕ). behind_digits l (b ∷ u)) empty ∙ digits_none b u))
 
 -- CR behind the digits
 pub number_return : (framing : Framing) (fed : List ℕ) (sum count number b : ℕ) → hex_digit b ≡ None → 1 ≤ count → b ≡ 13
-    → StandsAt (Places.Size count number) sum framing fed → StandsAt (Places.LineFeed number) sum framing (fed ++ b ∷ [])
+    → RepresentsAt (Places.Size count number) sum framing fed → RepresentsAt (Places.LineFeed number) sum framing (fed ++ b ∷ [])
 number_return framing fed sum count number b none some is (chunked_is, in_line) =
     let x = in_line.holds in
     let line = in_line.line in
@@ -175,7 +175,7 @@ number_return framing fed sum count number b none some is (chunked_is, in_line) 
 
 -- an extension begins
 pub number_extension : (framing : Framing) (fed : List ℕ) (sum count number b : ℕ) → hex_digit b ≡ None → 1 ≤ count → opens_extension b ≡ true
-    → StandsAt (Places.Size count number) sum framing fed → StandsAt (Places.Extension (255 - count) number) sum framing (fed ++ b ∷ [])
+    → RepresentsAt (Places.Size count number) sum framing fed → RepresentsAt (Places.Extension (255 - count) number) sum framing (fed ++ b ∷ [])
 number_extension framing fed sum count number b none some opens (chunked_is, in_line) =
     let x = in_line.holds in
     let line = in_line.line in
@@ -198,12 +198,12 @@ number_extension framing fed sum count number b none some opens (chunked_is, in_
 
 -- any other byte behind the digits is refused
 pub number_refused : (framing : Framing) (fed : List ℕ) (sum count number b : ℕ) → hex_digit b ≡ None → 1 ≤ count → b ≢ 13
-    → opens_extension b ≡ false → StandsAt (Places.Size count number) sum framing fed → StandsAt (Places.Refused BAD_REQUEST) sum framing (fed ++ b ∷ [])
+    → opens_extension b ≡ false → RepresentsAt (Places.Size count number) sum framing fed → RepresentsAt (Places.Refused bad_request) sum framing (fed ++ b ∷ [])
 number_refused framing fed sum count number b none some other opens (chunked_is, in_line) =
     let x = in_line.holds in
     let line = in_line.line in
-    line_refused framing in_line.before line fed in_line.left sum b BAD_REQUEST chunked_is in_line.parts in_line.chunks
-    (λ t. capped_wrong 256 BAD_REQUEST BAD_REQUEST line t b line_of (omega (arith, x.counted, x.few))
+    line_refused framing in_line.before line fed in_line.left sum b bad_request chunked_is in_line.parts in_line.chunks
+    (λ t. capped_wrong 256 bad_request bad_request line t b line_of (omega (arith, x.counted, x.few))
     (λ u. number_leaves line count number b x none some u ∙ ap (λ (c : Bool). cond c (line_end number (behind_extension u)) (line_end number (b ∷ u))) opens
     ∙ line_end_wrong number b u other))
 
@@ -211,7 +211,7 @@ number_refused framing fed sum count number b none some other opens (chunked_is,
 
 -- a byte of an extension
 pub extension_more : (framing : Framing) (fed : List ℕ) (sum room number b : ℕ) → 1 < room → is_extension_byte b ≡ true
-    → StandsAt (Places.Extension room number) sum framing fed → StandsAt (Places.Extension (room - 1) number) sum framing (fed ++ b ∷ [])
+    → RepresentsAt (Places.Extension room number) sum framing fed → RepresentsAt (Places.Extension (room - 1) number) sum framing (fed ++ b ∷ [])
 extension_more framing fed sum room number b some text (chunked_is, has_room, in_line) =
     let x = in_line.holds in
     let line = in_line.line in
@@ -233,7 +233,7 @@ extension_more framing fed sum room number b some text (chunked_is, has_room, in
 
 -- CR behind an extension
 pub extension_ends : (framing : Framing) (fed : List ℕ) (sum room number b : ℕ) → 1 < room → b ≡ 13
-    → StandsAt (Places.Extension room number) sum framing fed → StandsAt (Places.LineFeed number) sum framing (fed ++ b ∷ [])
+    → RepresentsAt (Places.Extension room number) sum framing fed → RepresentsAt (Places.LineFeed number) sum framing (fed ++ b ∷ [])
 extension_ends framing fed sum room number b some is (chunked_is, has_room, in_line) =
     let x = in_line.holds in
     let line = in_line.line in
@@ -259,34 +259,34 @@ extension_ends framing fed sum room number b some is (chunked_is, has_room, in_l
 
 -- the last byte that a line may have doesn't end it in an extension
 pub extension_full : (framing : Framing) (fed : List ℕ) (sum room number b : ℕ) → room ≤ 1
-    → StandsAt (Places.Extension room number) sum framing fed → StandsAt (Places.Refused BAD_REQUEST) sum framing (fed ++ b ∷ [])
+    → RepresentsAt (Places.Extension room number) sum framing fed → RepresentsAt (Places.Refused bad_request) sum framing (fed ++ b ∷ [])
 extension_full framing fed sum room number b last (chunked_is, has_room, in_line) =
     let x = in_line.holds in
     let line = in_line.line in
-    line_refused framing in_line.before line fed in_line.left sum b BAD_REQUEST chunked_is in_line.parts in_line.chunks
-    (λ t. capped_full 256 BAD_REQUEST line t b line_of (omega (arith, x.kept, last, has_room))
-    (subst (λ (p : Part). (p ≡ cut) ⊎ (p ≡ wrong BAD_REQUEST)) (sym (x.reads (b ∷ []))) (extension_last number b)))
+    line_refused framing in_line.before line fed in_line.left sum b bad_request chunked_is in_line.parts in_line.chunks
+    (λ t. capped_full 256 bad_request line t b line_of (omega (arith, x.kept, last, has_room))
+    (subst (λ (p : Part). (p ≡ cut) ⊎ (p ≡ wrong bad_request)) (sym (x.reads (b ∷ []))) (extension_last number b)))
 
 -- any other byte in an extension is refused
 pub extension_refused : (framing : Framing) (fed : List ℕ) (sum room number b : ℕ) → is_extension_byte b ≡ false → b ≢ 13
-    → StandsAt (Places.Extension room number) sum framing fed → StandsAt (Places.Refused BAD_REQUEST) sum framing (fed ++ b ∷ [])
+    → RepresentsAt (Places.Extension room number) sum framing fed → RepresentsAt (Places.Refused bad_request) sum framing (fed ++ b ∷ [])
 extension_refused framing fed sum room number b text other (chunked_is, has_room, in_line) =
     let x = in_line.holds in
     let line = in_line.line in
-    line_refused framing in_line.before line fed in_line.left sum b BAD_REQUEST chunked_is in_line.parts in_line.chunks
-    (λ t. capped_wrong 256 BAD_REQUEST BAD_REQUEST line t b line_of (omega (arith, x.kept, has_room))
+    line_refused framing in_line.before line fed in_line.left sum b bad_request chunked_is in_line.parts in_line.chunks
+    (λ t. capped_wrong 256 bad_request bad_request line t b line_of (omega (arith, x.kept, has_room))
     (λ u. x.reads (b ∷ u) ∙ ap (λ (s : List ℕ). line_end number s) (extension_other b u text) ∙ line_end_wrong number b u other))
 
 -- ---- the LF of a chunk line
 
 -- another byte than LF is refused
 pub feed_refused : (framing : Framing) (fed : List ℕ) (sum number b : ℕ) → b ≢ 10
-    → StandsAt (Places.LineFeed number) sum framing fed → StandsAt (Places.Refused BAD_REQUEST) sum framing (fed ++ b ∷ [])
+    → RepresentsAt (Places.LineFeed number) sum framing fed → RepresentsAt (Places.Refused bad_request) sum framing (fed ++ b ∷ [])
 feed_refused framing fed sum number b other (chunked_is, (room, has_room, in_line)) =
     let x = in_line.holds in
     let line = in_line.line in
-    line_refused framing in_line.before line fed in_line.left sum b BAD_REQUEST chunked_is in_line.parts in_line.chunks
-    (λ t. capped_wrong 256 BAD_REQUEST BAD_REQUEST line t b line_of (omega (arith, x.kept, has_room))
+    line_refused framing in_line.before line fed in_line.left sum b bad_request chunked_is in_line.parts in_line.chunks
+    (λ t. capped_wrong 256 bad_request bad_request line t b line_of (omega (arith, x.kept, has_room))
     (λ u. x.reads (b ∷ u) ∙ line_end_no_feed number b u other))
 
 -- what LF leaves of the chunks
@@ -298,23 +298,23 @@ feed_leaves fed sum number b room is has_room in_line t =
     let line = in_line.line in
     ap (λ (s : List ℕ). chunked s) (one_more fed t b) ∙ line_leaves in_line.before line fed (b ∷ t) in_line.left sum in_line.parts in_line.chunks
     ∙ ap (λ (p : Part). behind_line (chunks in_line.left) sum p)
-    (capped_past 256 BAD_REQUEST line t b number line_of (omega (arith, x.kept, has_room))
+    (capped_past 256 bad_request line t b number line_of (omega (arith, x.kept, has_room))
     (λ u. x.reads (b ∷ u) ∙ ap (λ m. line_end number (13 ∷ m ∷ u)) is ∙ line_end_past number u))
 
 -- too much content
-pub feed_too_large : (framing : Framing) (fed : List ℕ) (sum number b : ℕ) → b ≡ 10 → BODY_LIMIT < sum + number
-    → StandsAt (Places.LineFeed number) sum framing fed → StandsAt (Places.Refused CONTENT_TOO_LARGE) sum framing (fed ++ b ∷ [])
+pub feed_too_large : (framing : Framing) (fed : List ℕ) (sum number b : ℕ) → b ≡ 10 → body_limit < sum + number
+    → RepresentsAt (Places.LineFeed number) sum framing fed → RepresentsAt (Places.Refused content_too_large) sum framing (fed ++ b ∷ [])
 feed_too_large framing fed sum number b is over (chunked_is, (room, has_room, in_line)) =
-    let large : nat_lt BODY_LIMIT (sum + number) ≡ true = grind (arith, nat_tests) in
-    refused_at framing (fed ++ b ∷ []) CONTENT_TOO_LARGE chunked_is
+    let large : nat_lt body_limit (sum + number) ≡ true = grind (arith, nat_tests) in
+    refused_at framing (fed ++ b ∷ []) content_too_large chunked_is
     (λ t. feed_leaves fed sum number b room is has_room in_line t
-    ∙ ap (λ (c : Bool). cond c (wrong CONTENT_TOO_LARGE) (cond (number == 0) (trailers t) (behind_content (chunks in_line.left (sum + number)) (line_end 0 (drop number t))))) large)
+    ∙ ap (λ (c : Bool). cond c (wrong content_too_large) (cond (number == 0) (trailers t) (behind_content (chunks in_line.left (sum + number)) (line_end 0 (drop number t))))) large)
 
 -- the last chunk, behind which the trailers begin
-pub feed_last : (framing : Framing) (fed : List ℕ) (sum number b next : ℕ) → b ≡ 10 → sum + number ≤ BODY_LIMIT → number ≡ 0
-    → StandsAt (Places.LineFeed number) sum framing fed → StandsAt (Places.Trailers 4096 Lines.Start) next framing (fed ++ b ∷ [])
+pub feed_last : (framing : Framing) (fed : List ℕ) (sum number b next : ℕ) → b ≡ 10 → sum + number ≤ body_limit → number ≡ 0
+    → RepresentsAt (Places.LineFeed number) sum framing fed → RepresentsAt (Places.Trailers 4096 Lines.Start) next framing (fed ++ b ∷ [])
 feed_last framing fed sum number b next is fits none (chunked_is, (room, has_room, in_line)) =
-    let small : nat_lt BODY_LIMIT (sum + number) ≡ false = grind (arith, nat_tests) in
+    let small : nat_lt body_limit (sum + number) ≡ false = grind (arith, nat_tests) in
     let last : (number == 0) ≡ true = grind (arith, nat_tests) in (
       chunked_is,
       record {
@@ -324,27 +324,27 @@ feed_last framing fed sum number b next is fits none (chunked_is, (room, has_roo
         some = omega arith;
         kept = refl;
         goes_on = λ t. feed_leaves fed sum number b room is has_room in_line t
-            ∙ ap (λ (c : Bool). cond c (wrong CONTENT_TOO_LARGE) (cond (number == 0) (trailers t) (behind_content (chunks in_line.left (sum + number)) (line_end 0 (drop number t))))) small
+            ∙ ap (λ (c : Bool). cond c (wrong content_too_large) (cond (number == 0) (trailers t) (behind_content (chunks in_line.left (sum + number)) (line_end 0 (drop number t))))) small
             ∙ ap (λ (c : Bool). cond c (trailers t) (behind_content (chunks in_line.left (sum + number)) (line_end 0 (drop number t)))) last;
         reads = λ t. refl;
       },
     )
 
 -- a chunk with content
-pub feed_chunk : (framing : Framing) (fed : List ℕ) (sum number b behind next : ℕ) → b ≡ 10 → sum + number ≤ BODY_LIMIT → number ≡ behind + 1 → next ≡ sum + number
-    → StandsAt (Places.LineFeed number) sum framing fed → StandsAt (Places.Chunk behind) next framing (fed ++ b ∷ [])
+pub feed_chunk : (framing : Framing) (fed : List ℕ) (sum number b behind next : ℕ) → b ≡ 10 → sum + number ≤ body_limit → number ≡ behind + 1 → next ≡ sum + number
+    → RepresentsAt (Places.LineFeed number) sum framing fed → RepresentsAt (Places.Chunk behind) next framing (fed ++ b ∷ [])
 feed_chunk framing fed sum number b behind next is fits some next_is (chunked_is, (room, has_room, in_line)) =
-    subst (λ n. StandsAt (Places.Chunk behind) n framing (fed ++ b ∷ [])) (sym next_is) (
+    subst (λ n. RepresentsAt (Places.Chunk behind) n framing (fed ++ b ∷ [])) (sym next_is) (
     let has = in_line.chunks in
     let left = in_line.left - 1 in
     let left_is : in_line.left ≡ suc left = omega (arith, has.enough, fits, some) in
-    let small : nat_lt BODY_LIMIT (sum + number) ≡ false = grind (arith, nat_tests) in
+    let small : nat_lt body_limit (sum + number) ≡ false = grind (arith, nat_tests) in
     let not_last : (number == 0) ≡ false = grind (arith, nat_tests) in (
       chunked_is,
       record {
         left = left;
         reads = λ t. feed_leaves fed sum number b room is has_room in_line t
-            ∙ ap (λ (c : Bool). cond c (wrong CONTENT_TOO_LARGE) (cond (number == 0) (trailers t) (behind_content (chunks in_line.left (sum + number)) (line_end 0 (drop number t))))) small
+            ∙ ap (λ (c : Bool). cond c (wrong content_too_large) (cond (number == 0) (trailers t) (behind_content (chunks in_line.left (sum + number)) (line_end 0 (drop number t))))) small
             ∙ ap (λ (c : Bool). cond c (trailers t) (behind_content (chunks in_line.left (sum + number)) (line_end 0 (drop number t)))) not_last
             ∙ ap (λ n. behind_content (chunks n (sum + number)) (line_end 0 (drop number t))) left_is
             ∙ ap (λ n. behind_content (chunks (suc left) (sum + number)) (line_end 0 (drop n t))) some;
@@ -367,7 +367,7 @@ taken_size n bytes fits = grind (arith, common_steps)
 
 -- a part of a content of a known length
 pub content_part : (framing : Framing) (fed bytes : List ℕ) (sum behind used rest : ℕ) → used ≤ length bytes → rest + used ≡ behind
-    → StandsAt (Places.Content behind) sum framing fed → StandsAt (Places.Content rest) sum framing (fed ++ take used bytes)
+    → RepresentsAt (Places.Content behind) sum framing fed → RepresentsAt (Places.Content rest) sum framing (fed ++ take used bytes)
 content_part framing fed bytes sum behind used rest fits left is =
     let size = length-append fed (take used bytes) in
     let taken = taken_size used bytes fits in
@@ -376,7 +376,7 @@ content_part framing fed bytes sum behind used rest fits left is =
 
 -- the last part of a content of a known length
 pub content_done : (framing : Framing) (fed bytes : List ℕ) (sum behind used : ℕ) → used ≤ length bytes → used ≡ behind + 1
-    → StandsAt (Places.Content behind) sum framing fed → StandsAt Places.Whole sum framing (fed ++ take used bytes)
+    → RepresentsAt (Places.Content behind) sum framing fed → RepresentsAt Places.Whole sum framing (fed ++ take used bytes)
 content_done framing fed bytes sum behind used fits all is t =
     let fed_now = fed ++ take used bytes in
     let size = length-append fed (take used bytes) in
@@ -389,7 +389,7 @@ content_done framing fed bytes sum behind used fits all is t =
 
 -- a part of a chunk
 pub chunk_part : (framing : Framing) (fed bytes : List ℕ) (sum behind used rest : ℕ) → used ≤ length bytes → rest + used ≡ behind
-    → StandsAt (Places.Chunk behind) sum framing fed → StandsAt (Places.Chunk rest) sum framing (fed ++ take used bytes)
+    → RepresentsAt (Places.Chunk behind) sum framing fed → RepresentsAt (Places.Chunk rest) sum framing (fed ++ take used bytes)
 chunk_part framing fed bytes sum behind used rest fits left (chunked_is, x) =
     let taken = taken_size used bytes fits in
     let k_is : behind + 1 - used ≡ rest + 1 = omega (arith, left) in (
@@ -406,7 +406,7 @@ chunk_part framing fed bytes sum behind used rest fits left (chunked_is, x) =
 
 -- the last part of a chunk
 pub chunk_done : (framing : Framing) (fed bytes : List ℕ) (sum behind used : ℕ) → used ≤ length bytes → used ≡ behind + 1
-    → StandsAt (Places.Chunk behind) sum framing fed → StandsAt Places.ChunkReturn sum framing (fed ++ take used bytes)
+    → RepresentsAt (Places.Chunk behind) sum framing fed → RepresentsAt Places.ChunkReturn sum framing (fed ++ take used bytes)
 chunk_done framing fed bytes sum behind used fits all (chunked_is, x) =
     let taken = taken_size used bytes fits in
     let none : behind + 1 - used ≡ 0 = omega (arith, all) in (
@@ -423,7 +423,7 @@ chunk_done framing fed bytes sum behind used fits all (chunked_is, x) =
 
 -- CR behind a chunk
 pub chunk_return : (framing : Framing) (fed : List ℕ) (sum b : ℕ) → b ≡ 13
-    → StandsAt Places.ChunkReturn sum framing fed → StandsAt Places.ChunkLineFeed sum framing (fed ++ b ∷ [])
+    → RepresentsAt Places.ChunkReturn sum framing fed → RepresentsAt Places.ChunkLineFeed sum framing (fed ++ b ∷ [])
 chunk_return framing fed sum b is (chunked_is, x) = (
   chunked_is,
   record {
@@ -437,15 +437,15 @@ chunk_return framing fed sum b is (chunked_is, x) = (
 
 -- another byte behind a chunk
 pub chunk_refused : (framing : Framing) (fed : List ℕ) (sum b : ℕ) → b ≢ 13
-    → StandsAt Places.ChunkReturn sum framing fed → StandsAt (Places.Refused BAD_REQUEST) sum framing (fed ++ b ∷ [])
+    → RepresentsAt Places.ChunkReturn sum framing fed → RepresentsAt (Places.Refused bad_request) sum framing (fed ++ b ∷ [])
 chunk_refused framing fed sum b other (chunked_is, x) =
-    refused_at framing (fed ++ b ∷ []) BAD_REQUEST chunked_is
+    refused_at framing (fed ++ b ∷ []) bad_request chunked_is
     (λ t. ap (λ (s : List ℕ). chunked s) (one_more fed t b) ∙ x.reads (b ∷ t)
     ∙ ap (λ (p : Part). behind_content (chunks (suc x.left) sum) p) (line_end_wrong 0 b t other))
 
 -- LF behind the CR of a chunk, and the next line begins
 pub chunk_feed : (framing : Framing) (fed : List ℕ) (sum b : ℕ) → b ≡ 10
-    → StandsAt Places.ChunkLineFeed sum framing fed → StandsAt (Places.Size 0 0) sum framing (fed ++ b ∷ [])
+    → RepresentsAt Places.ChunkLineFeed sum framing fed → RepresentsAt (Places.Size 0 0) sum framing (fed ++ b ∷ [])
 chunk_feed framing fed sum b is (chunked_is, x) = (
   chunked_is,
   record {
@@ -466,9 +466,9 @@ chunk_feed framing fed sum b is (chunked_is, x) = (
 
 -- another byte behind the CR of a chunk
 pub chunk_no_feed : (framing : Framing) (fed : List ℕ) (sum b : ℕ) → b ≢ 10
-    → StandsAt Places.ChunkLineFeed sum framing fed → StandsAt (Places.Refused BAD_REQUEST) sum framing (fed ++ b ∷ [])
+    → RepresentsAt Places.ChunkLineFeed sum framing fed → RepresentsAt (Places.Refused bad_request) sum framing (fed ++ b ∷ [])
 chunk_no_feed framing fed sum b other (chunked_is, x) =
-    refused_at framing (fed ++ b ∷ []) BAD_REQUEST chunked_is
+    refused_at framing (fed ++ b ∷ []) bad_request chunked_is
     (λ t. ap (λ (s : List ℕ). chunked s) (one_more fed t b) ∙ x.reads (b ∷ t)
     ∙ ap (λ (p : Part). behind_content (chunks (suc x.left) sum) p) (line_end_no_feed 0 b t other))
 
@@ -483,19 +483,19 @@ section_leaves framing fed t room line x b =
 
 -- the section ends
 pub trailers_end : (framing : Framing) (fed : List ℕ) (sum room : ℕ) (line : TrailerLine) (b : ℕ) → ((t : List ℕ) → section_at line (b ∷ t) ≡ past 0 t)
-    → StandsAt (Places.Trailers room line) sum framing fed → StandsAt Places.Whole sum framing (fed ++ b ∷ [])
+    → RepresentsAt (Places.Trailers room line) sum framing fed → RepresentsAt Places.Whole sum framing (fed ++ b ∷ [])
 trailers_end framing fed sum room line b ends (chunked_is, x) =
     whole_at framing (fed ++ b ∷ []) chunked_is
     (λ t. section_leaves framing fed t room line x b
-    ∙ capped_past 4096 FIELDS_TOO_LARGE x.lines t b 0 (section_of true) (omega (arith, x.kept, x.some)) (λ u. x.reads (b ∷ u) ∙ ends u))
+    ∙ capped_past 4096 header_fields_too_large x.lines t b 0 (section_of true) (omega (arith, x.kept, x.some)) (λ u. x.reads (b ∷ u) ∙ ends u))
 
 -- the section is broken
-pub trailers_break : (framing : Framing) (fed : List ℕ) (sum room : ℕ) (line : TrailerLine) (b : ℕ) → ((t : List ℕ) → section_at line (b ∷ t) ≡ wrong BAD_REQUEST)
-    → StandsAt (Places.Trailers room line) sum framing fed → StandsAt (Places.Refused BAD_REQUEST) sum framing (fed ++ b ∷ [])
+pub trailers_break : (framing : Framing) (fed : List ℕ) (sum room : ℕ) (line : TrailerLine) (b : ℕ) → ((t : List ℕ) → section_at line (b ∷ t) ≡ wrong bad_request)
+    → RepresentsAt (Places.Trailers room line) sum framing fed → RepresentsAt (Places.Refused bad_request) sum framing (fed ++ b ∷ [])
 trailers_break framing fed sum room line b breaks (chunked_is, x) =
-    refused_at framing (fed ++ b ∷ []) BAD_REQUEST chunked_is
+    refused_at framing (fed ++ b ∷ []) bad_request chunked_is
     (λ t. section_leaves framing fed t room line x b
-    ∙ capped_wrong 4096 FIELDS_TOO_LARGE BAD_REQUEST x.lines t b (section_of true) (omega (arith, x.kept, x.some)) (λ u. x.reads (b ∷ u) ∙ breaks u))
+    ∙ capped_wrong 4096 header_fields_too_large bad_request x.lines t b (section_of true) (omega (arith, x.kept, x.some)) (λ u. x.reads (b ∷ u) ∙ breaks u))
 
 -- nothing more is a part of no line
 section_at_nil : (line : TrailerLine) → section_at line [] ≡ cut
@@ -506,16 +506,16 @@ section_at_nil Lines.InsideReturn = section_return false
 
 -- the last byte that a section may have doesn't end it
 pub trailers_full : (framing : Framing) (fed : List ℕ) (sum room : ℕ) (line next : TrailerLine) (b : ℕ) → room ≤ 1 → ((t : List ℕ) → section_at line (b ∷ t) ≡ section_at next t)
-    → StandsAt (Places.Trailers room line) sum framing fed → StandsAt (Places.Refused FIELDS_TOO_LARGE) sum framing (fed ++ b ∷ [])
+    → RepresentsAt (Places.Trailers room line) sum framing fed → RepresentsAt (Places.Refused header_fields_too_large) sum framing (fed ++ b ∷ [])
 trailers_full framing fed sum room line next b last goes (chunked_is, x) =
-    refused_at framing (fed ++ b ∷ []) FIELDS_TOO_LARGE chunked_is
+    refused_at framing (fed ++ b ∷ []) header_fields_too_large chunked_is
     (λ t. section_leaves framing fed t room line x b
-    ∙ capped_full 4096 FIELDS_TOO_LARGE x.lines t b (section_of true) (omega (arith, x.kept, x.some, last))
+    ∙ capped_full 4096 header_fields_too_large x.lines t b (section_of true) (omega (arith, x.kept, x.some, last))
     (inl (x.reads (b ∷ []) ∙ goes [] ∙ section_at_nil next)))
 
 -- the section goes on
 pub trailers_more : (framing : Framing) (fed : List ℕ) (sum room : ℕ) (line next : TrailerLine) (b : ℕ) → 1 < room → ((t : List ℕ) → section_at line (b ∷ t) ≡ section_at next t)
-    → StandsAt (Places.Trailers room line) sum framing fed → StandsAt (Places.Trailers (room - 1) next) sum framing (fed ++ b ∷ [])
+    → RepresentsAt (Places.Trailers room line) sum framing fed → RepresentsAt (Places.Trailers (room - 1) next) sum framing (fed ++ b ∷ [])
 trailers_more framing fed sum room line next b some goes (chunked_is, x) =
     let size : length (x.lines ++ b ∷ []) ≡ length x.lines + 1 = length-append x.lines (b ∷ []) in (
       chunked_is,
@@ -539,7 +539,7 @@ line_cut framing sum fed Holds is x short reads =
     more_at framing fed is
     (ap (λ (s : List ℕ). chunked s) (sym (append-nil fed)) ∙ line_leaves x.before x.line fed [] x.left sum x.parts x.chunks
     ∙ ap (λ (s : List ℕ). behind_line (chunks x.left) sum (chunk_line s)) (append-nil x.line)
-    ∙ ap (λ (p : Part). behind_line (chunks x.left) sum p) (capped_cut 256 BAD_REQUEST x.line line_of short reads))
+    ∙ ap (λ (p : Part). behind_line (chunks x.left) sum p) (capped_cut 256 bad_request x.line line_of short reads))
 
 -- more of a chunk is waited for
 content_cut : (framing : Framing) (sum : ℕ) (fed : List ℕ) (rest : List ℕ → List ℕ) → framing ≡ Framings.Chunked → (x : InContent rest sum fed)
@@ -550,7 +550,7 @@ content_cut framing sum fed rest is x reads =
     ∙ ap (λ (p : Part). behind_content (chunks (suc x.left) sum) p) reads)
 
 -- where a reader waits for more bytes, the body isn't whole
-open_is_more : (place : Place) (sum : ℕ) (framing : Framing) (fed : List ℕ) → StandsAt place sum framing fed → state_at place ≡ States.More
+open_is_more : (place : BodyPlace) (sum : ℕ) (framing : Framing) (fed : List ℕ) → RepresentsAt place sum framing fed → state_at place ≡ States.More
     → body_of framing fed ≡ more
 open_is_more (Places.Content behind) sum framing fed is opens =
     let short : nat_le (length fed + (behind + 1)) (length fed) ≡ false = grind (arith, nat_tests) in
@@ -574,24 +574,43 @@ open_is_more Places.ChunkLineFeed sum framing fed (is, x) opens = content_cut fr
 open_is_more (Places.Trailers room line) sum framing fed (is, x) opens =
     more_at framing fed is
     (ap (λ (s : List ℕ). chunked s) (x.parts) ∙ x.goes_on x.lines
-    ∙ capped_cut 4096 FIELDS_TOO_LARGE x.lines (section_of true) (omega (arith, x.kept, x.some))
+    ∙ capped_cut 4096 header_fields_too_large x.lines (section_of true) (omega (arith, x.kept, x.some))
     (ap (λ (s : List ℕ). section_of true s) (sym (append-nil x.lines)) ∙ x.reads [] ∙ section_at_nil line))
 open_is_more Places.Whole sum framing fed stands opens = absurd cc
 open_is_more (Places.Refused code) sum framing fed stands opens = absurd cc
+
+-- before its next byte an open body isn't settled
+pub open_before : (place : BodyPlace) (sum : ℕ) (framing : Framing) (fed bytes : List ℕ) (n : ℕ) → n ≡ 0 → RepresentsAt place sum framing fed
+    → state_at place ≡ States.More → body_of framing (fed ++ take n bytes) ≡ more
+open_before place sum framing fed bytes n none stands opens =
+    ap (λ (k : ℕ). body_of framing (fed ++ take k bytes)) none ∙ ap (λ (t : List ℕ). body_of framing t) (append-nil fed)
+    ∙ open_is_more place sum framing fed stands opens
+
+-- nor is it within its content
+pub content_before : (framing : Framing) (fed bytes : List ℕ) (sum behind n : ℕ) → n ≤ length bytes → n ≤ behind
+    → RepresentsAt (Places.Content behind) sum framing fed → body_of framing (fed ++ take n bytes) ≡ more
+content_before framing fed bytes sum behind n fits within stands =
+    open_is_more (Places.Content (behind - n)) sum framing (fed ++ take n bytes) (content_part framing fed bytes sum behind n (behind - n) fits (omega (arith, within)) stands) refl
+
+-- nor within that of a chunk
+pub chunk_before : (framing : Framing) (fed bytes : List ℕ) (sum behind n : ℕ) → n ≤ length bytes → n ≤ behind
+    → RepresentsAt (Places.Chunk behind) sum framing fed → body_of framing (fed ++ take n bytes) ≡ more
+chunk_before framing fed bytes sum behind n fits within stands =
+    open_is_more (Places.Chunk (behind - n)) sum framing (fed ++ take n bytes) (chunk_part framing fed bytes sum behind n (behind - n) fits (omega (arith, within)) stands) refl
 
 -- a piece that was used in part, with the rest of it
 whole_piece : (fed piece : List ℕ) (used : ℕ) → fed ++ take used piece ++ drop used piece ≡ fed ++ piece
 whole_piece fed piece used = append_assoc fed (take used piece) (drop used piece) ∙ ap (λ (s : List ℕ). fed ++ s) (take-append-drop used piece)
 
-says_more : (place : Place) (sum : ℕ) (framing : Framing) (fed piece : List ℕ) (used : ℕ) → StandsAt place sum framing (fed ++ take used piece)
+says_more : (place : BodyPlace) (sum : ℕ) (framing : Framing) (fed piece : List ℕ) (used : ℕ) → RepresentsAt place sum framing (fed ++ take used piece)
     → state_at place ≡ States.More → used ≡ length piece → body_of framing (fed ++ piece) ≡ more
 says_more place sum framing fed piece used stands opens all =
     let whole_is : take used piece ≡ piece = take_all used piece (omega (arith, all)) in
     ap (λ (s : List ℕ). body_of framing (fed ++ s)) (sym whole_is) ∙ open_is_more place sum framing (fed ++ take used piece) stands opens
 
 -- what a reader says behind a piece is said of all bytes so far
-pub says_of_all : (place : Place) (sum : ℕ) (framing : Framing) (fed piece : List ℕ) (used : ℕ) → used ≤ length piece
-    → StandsAt place sum framing (fed ++ take used piece) → (state_at place ≡ States.More → used ≡ length piece)
+pub says_of_all : (place : BodyPlace) (sum : ℕ) (framing : Framing) (fed piece : List ℕ) (used : ℕ) → used ≤ length piece
+    → RepresentsAt place sum framing (fed ++ take used piece) → (state_at place ≡ States.More → used ≡ length piece)
     → body_of framing (fed ++ piece) ≡ state_verdict (state_at place) (length fed + used)
 says_of_all Places.Whole sum framing fed piece used within stands all =
     let size = length-append fed (take used piece) in

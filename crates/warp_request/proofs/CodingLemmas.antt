@@ -9,23 +9,23 @@ use Rattle.std.proofs.lemmas.List.Folds.{list_any-append}
 use Rattle.std.proofs.lemmas.List.Sums.{fold-append, sum_by-append}
 use Rattle.warp_request.specs.declared.coding.CodingLines.{CodingLines}
 use Rattle.warp_request.specs.declared.coding.CodingLines.TheVariants.{Absent, Empty, Others, Chunked, OthersChunked, Wrong}
-use Rattle.warp_request.specs.declared.names.TheConstants.{TRANSFER_ENCODING}
+use Rattle.warp_request.specs.LimitsAndWords.{transfer_encoding_name}
 use Rattle.warp_request.specs.Content.{codings_of, ends_in_chunked, has_other_coding, is_chunked}
 use Rattle.warp_request.specs.Fields.{members_in, members_of, values_of}
 use Rattle.warp_request.specs.NamedLines.{coding_behind, coding_lines, coding_with, codings_with, opened}
 use Rattle.warp_request.proofs.FieldLemmas.{values_of-same, values_of-other}
 
 -- one more field
-pub coding_lines-same : (fields : List (List ℕ × List ℕ)) (name value : List ℕ) → str_eq_ignore_ascii_case name TRANSFER_ENCODING.now ≡ true
-    → coding_lines (values_of TRANSFER_ENCODING.now (fields ++ (name, value) ∷ [])) ≡ codings_with (coding_lines (values_of TRANSFER_ENCODING.now fields)) value
+pub coding_lines-same : (fields : List (List ℕ × List ℕ)) (name value : List ℕ) → str_eq_ignore_ascii_case name transfer_encoding_name ≡ true
+    → coding_lines (values_of transfer_encoding_name (fields ++ (name, value) ∷ [])) ≡ codings_with (coding_lines (values_of transfer_encoding_name fields)) value
 unfolding coding_lines
 coding_lines-same fields name value same =
-    ap coding_lines (values_of-same TRANSFER_ENCODING.now fields (name, value) same)
-    ∙ fold-append codings_with Absent (values_of TRANSFER_ENCODING.now fields) (value ∷ [])
+    ap coding_lines (values_of-same transfer_encoding_name fields (name, value) same)
+    ∙ fold-append codings_with Absent (values_of transfer_encoding_name fields) (value ∷ [])
 
-pub coding_lines-other : (fields : List (List ℕ × List ℕ)) (name value : List ℕ) → str_eq_ignore_ascii_case name TRANSFER_ENCODING.now ≡ false
-    → coding_lines (values_of TRANSFER_ENCODING.now (fields ++ (name, value) ∷ [])) ≡ coding_lines (values_of TRANSFER_ENCODING.now fields)
-coding_lines-other fields name value other = ap coding_lines (values_of-other TRANSFER_ENCODING.now fields (name, value) other)
+pub coding_lines-other : (fields : List (List ℕ × List ℕ)) (name value : List ℕ) → str_eq_ignore_ascii_case name transfer_encoding_name ≡ false
+    → coding_lines (values_of transfer_encoding_name (fields ++ (name, value) ∷ [])) ≡ coding_lines (values_of transfer_encoding_name fields)
+coding_lines-other fields name value other = ap coding_lines (values_of-other transfer_encoding_name fields (name, value) other)
 
 -- ---- what the list of codings says
 

@@ -5,7 +5,7 @@ use Rattle.std.specs.List.{list_all}
 use Rattle.std.specs.Str.{str_eq_ignore_ascii_case}
 use Rattle.std.proofs.lemmas.List.Folds.{list_all-append}
 use Rattle.warp_request.specs.declared.expect.ExpectLines.TheVariants.{Continue, Other}
-use Rattle.warp_request.specs.declared.names.TheConstants.{EXPECT}
+use Rattle.warp_request.specs.LimitsAndWords.{expect_name}
 use Rattle.warp_request.specs.declared.verdict.Framing.{Framing}
 use Rattle.warp_request.specs.Content.{has_content, is_continue, is_expect_fault, waits_for_interim}
 use Rattle.warp_request.specs.Fields.{values_of}
@@ -30,14 +30,14 @@ expect_lines-push (v ∷ values) value =
     more false this e = refl
 
 -- one more field
-pub expect_lines-same : (fields : List (List ℕ × List ℕ)) (name value : List ℕ) → str_eq_ignore_ascii_case name EXPECT.now ≡ true
-    → expect_lines (values_of EXPECT.now (fields ++ (name, value) ∷ [])) ≡ expect_with (expect_lines (values_of EXPECT.now fields)) value
+pub expect_lines-same : (fields : List (List ℕ × List ℕ)) (name value : List ℕ) → str_eq_ignore_ascii_case name expect_name ≡ true
+    → expect_lines (values_of expect_name (fields ++ (name, value) ∷ [])) ≡ expect_with (expect_lines (values_of expect_name fields)) value
 expect_lines-same fields name value same =
-    ap expect_lines (values_of-same EXPECT.now fields (name, value) same) ∙ expect_lines-push (values_of EXPECT.now fields) value
+    ap expect_lines (values_of-same expect_name fields (name, value) same) ∙ expect_lines-push (values_of expect_name fields) value
 
-pub expect_lines-other : (fields : List (List ℕ × List ℕ)) (name value : List ℕ) → str_eq_ignore_ascii_case name EXPECT.now ≡ false
-    → expect_lines (values_of EXPECT.now (fields ++ (name, value) ∷ [])) ≡ expect_lines (values_of EXPECT.now fields)
-expect_lines-other fields name value other = ap expect_lines (values_of-other EXPECT.now fields (name, value) other)
+pub expect_lines-other : (fields : List (List ℕ × List ℕ)) (name value : List ℕ) → str_eq_ignore_ascii_case name expect_name ≡ false
+    → expect_lines (values_of expect_name (fields ++ (name, value) ∷ [])) ≡ expect_lines (values_of expect_name fields)
+expect_lines-other fields name value other = ap expect_lines (values_of-other expect_name fields (name, value) other)
 
 -- what the kind of Expect lines decides
 pub expect_fault_is : (minor : ℕ) (values : List (List ℕ)) → is_expect_fault minor values ≡ (minor == 1 && expects_other (expect_lines values))

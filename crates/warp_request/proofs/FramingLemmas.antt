@@ -4,9 +4,8 @@ use Rattle.std.specs.Prelude.{◌&&◌, ◌==◌, if◌then◌else◌, Result, O
 use Rattle.std.specs.List.{count_by}
 use Rattle.warp_request.specs.declared.coding.CodingLines.{CodingLines}
 use Rattle.warp_request.specs.declared.coding.CodingLines.TheVariants as codings
-use Rattle.warp_request.specs.declared.limits.TheConstants.{BODY_LIMIT}
-use Rattle.warp_request.specs.declared.names.TheConstants.{HOST, TRANSFER_ENCODING, CONTENT_LENGTH, EXPECT}
-use Rattle.warp_request.specs.declared.status.TheConstants.{BAD_REQUEST, CONTENT_TOO_LARGE, EXPECTATION_FAILED, NOT_IMPLEMENTED}
+use Rattle.warp_request.specs.LimitsAndWords.{body_limit, host_name, transfer_encoding_name, content_length_name, expect_name}
+use Rattle.warp_response.specs.Statuses.{bad_request, content_too_large, expectation_failed, not_implemented}
 use Rattle.warp_request.specs.declared.verdict.Framing.{Framing}
 use Rattle.warp_request.specs.declared.verdict.Framing.TheVariants as framings
 use Rattle.warp_request.specs.Checks.{field_checks, first_fault, framing_by, framing_checks}
@@ -18,19 +17,19 @@ use Rattle.warp_request.proofs.LengthLemmas.{SaysLength, length_lines_say, some_
 
 -- ---- by a length
 
-within : (large : Bool) (n : ℕ) → cond large (Err CONTENT_TOO_LARGE) (Ok (framings.Length n)) ≡ decided (cond large (Some CONTENT_TOO_LARGE) None) (framings.Length n)
+within : (large : Bool) (n : ℕ) → cond large (Err content_too_large) (Ok (framings.Length n)) ≡ decided (cond large (Some content_too_large) None) (framings.Length n)
 within true n = refl
 within false n = refl
 
 by_length : (lines : Lengths) (members : List (List ℕ)) → 1 ≤ length members → SaysLength lines members
     → framing_by_length lines
-    ≡ decided (cond (is_length_fault members) (Some BAD_REQUEST) (cond (nat_lt BODY_LIMIT (length_in members)) (Some CONTENT_TOO_LARGE) None)) (framings.Length (length_in members))
+    ≡ decided (cond (is_length_fault members) (Some bad_request) (cond (nat_lt body_limit (length_in members)) (Some content_too_large) None)) (framings.Length (length_in members))
 by_length absent members some says = absurd (omega (arith, some, ap length says))
 by_length (number digits) members some says =
-    ap framing_within says.2 ∙ within (nat_lt BODY_LIMIT (length_in members)) (length_in members)
-    ∙ sym (ap (λ (b : Bool). decided (cond b (Some BAD_REQUEST) (cond (nat_lt BODY_LIMIT (length_in members)) (Some CONTENT_TOO_LARGE) None)) (framings.Length (length_in members))) says.1)
+    ap framing_within says.2 ∙ within (nat_lt body_limit (length_in members)) (length_in members)
+    ∙ sym (ap (λ (b : Bool). decided (cond b (Some bad_request) (cond (nat_lt body_limit (length_in members)) (Some content_too_large) None)) (framings.Length (length_in members))) says.1)
 by_length wrong members some says =
-    sym (ap (λ (b : Bool). decided (cond b (Some BAD_REQUEST) (cond (nat_lt BODY_LIMIT (length_in members)) (Some CONTENT_TOO_LARGE) None)) (framings.Length (length_in members))) says.1)
+    sym (ap (λ (b : Bool). decided (cond b (Some bad_request) (cond (nat_lt body_limit (length_in members)) (Some content_too_large) None)) (framings.Length (length_in members))) says.1)
 
 nothing : (minor : ℕ) → framing_by_length (length_lines []) ≡ decided (first_fault (framing_checks minor [] [])) (framing_of [] [])
 unfolding length_lines is_length_fault length_in has_other_coding codings_of members_of framing_of
@@ -54,10 +53,10 @@ and_false false = refl
 
 -- what is decided by whether the list ends in `chunked`, and whether others are in it
 by_codings : (lines : CodingLines) (list : List (List ℕ)) → SaysCoding lines list
-    → framing_by_codings lines ≡ decided (cond (not (ends_in_chunked list)) (Some BAD_REQUEST) (cond (has_other_coding list) (Some NOT_IMPLEMENTED) None)) framings.Chunked
+    → framing_by_codings lines ≡ decided (cond (not (ends_in_chunked list)) (Some bad_request) (cond (has_other_coding list) (Some not_implemented) None)) framings.Chunked
 unfolding ends_in_chunked
 by_codings codings.Absent list says = absurd says
-by_codings codings.Empty list says = ap (λ (l : List (List ℕ)). decided (cond (not (ends_in_chunked l)) (Some BAD_REQUEST) (cond (has_other_coding l) (Some NOT_IMPLEMENTED) None)) framings.Chunked) (sym says)
+by_codings codings.Empty list says = ap (λ (l : List (List ℕ)). decided (cond (not (ends_in_chunked l)) (Some bad_request) (cond (has_other_coding l) (Some not_implemented) None)) framings.Chunked) (sym says)
 by_codings codings.Others list says =
     let none : ends_in_chunked list ≡ false = ap (λ n. is_chunked (get_or list (length list - 1) []) && n == 1) says.0 ∙ and_false (is_chunked (get_or list (length list - 1) [])) in
     rw none refl
@@ -71,13 +70,13 @@ by_codings codings.Wrong list says = rw says.1 refl
 
 -- under HTTP/1.0 no coding is taken
 by_version : (old : Bool) (r : Result Framing ℕ) (fault : Option ℕ) (framing : Framing) → r ≡ decided fault framing
-    → cond old (Err BAD_REQUEST) r ≡ decided (cond old (Some BAD_REQUEST) fault) framing
+    → cond old (Err bad_request) r ≡ decided (cond old (Some bad_request) fault) framing
 by_version true r fault framing e = refl
 by_version false r fault framing e = e
 
 -- the same for each kind of lines that are there
 said_of : (minor : ℕ) (lines : CodingLines) (lengths : Lengths) (list : List (List ℕ)) → SaysCoding lines list
-    → framing_said minor lines lengths ≡ cond (minor == 0) (Err BAD_REQUEST) (cond (is_absent lengths) (framing_by_codings lines) (Err BAD_REQUEST))
+    → framing_said minor lines lengths ≡ cond (minor == 0) (Err bad_request) (cond (is_absent lengths) (framing_by_codings lines) (Err bad_request))
 said_of minor codings.Absent lengths list says = absurd says
 said_of minor codings.Empty lengths list says = refl
 said_of minor codings.Others lengths list says = refl
@@ -93,9 +92,9 @@ with_codings minor value values [] lines says =
     ∙ by_version (minor == 0) (framing_by_codings lines) _ framings.Chunked (by_codings lines (codings_of (value ∷ values)) says)
 with_codings minor value values (v ∷ vs) lines says =
     said_of minor lines (length_lines (v ∷ vs)) (codings_of (value ∷ values)) says
-    ∙ ap (λ (b : Bool). cond (minor == 0) (Err BAD_REQUEST) (cond b (framing_by_codings lines) (Err BAD_REQUEST)))
+    ∙ ap (λ (b : Bool). cond (minor == 0) (Err bad_request) (cond b (framing_by_codings lines) (Err bad_request)))
     (not_absent (length_lines (v ∷ vs)) (members_of (v ∷ vs)) (some_member v vs) (length_lines_say (v ∷ vs)))
-    ∙ by_version (minor == 0) (Err BAD_REQUEST) (Some BAD_REQUEST) framings.Chunked refl
+    ∙ by_version (minor == 0) (Err bad_request) (Some bad_request) framings.Chunked refl
 
 -- the law: the kinds of the lines decide as the checks do
 pub framing_said_is : (minor : ℕ) (coded long : List (List ℕ))
@@ -126,25 +125,25 @@ one_more (check ∷ checks) fault code framing = by check.0 (one_more checks fau
     by false rest = rest
 
 checked_by : (host fault : Bool) (code : ℕ) (checks : List (Bool × ℕ)) (framing : Framing)
-    → decided (cond host (Some BAD_REQUEST) (first_fault (checks ++ (fault, code) ∷ []))) framing
-    ≡ (if host then Err BAD_REQUEST else unless fault code (decided (first_fault checks) framing))
+    → decided (cond host (Some bad_request) (first_fault (checks ++ (fault, code) ∷ []))) framing
+    ≡ (if host then Err bad_request else unless fault code (decided (first_fault checks) framing))
 checked_by true fault code checks framing = refl
 checked_by false fault code checks framing = one_more checks fault code framing
 
 -- the law: Host, then what delimits the content, then Expect
-pub fields_decide : (minor : ℕ) (fields : List (List ℕ × List ℕ)) (host expect : Bool) (said : Result Framing ℕ) → is_host_fault minor (values_of HOST.now fields) ≡ host
-    → said ≡ framing_said minor (coding_lines (values_of TRANSFER_ENCODING.now fields)) (length_lines (values_of CONTENT_LENGTH.now fields))
-    → is_expect_fault minor (values_of EXPECT.now fields) ≡ expect
-    → fields_say minor fields ≡ (if host then Err BAD_REQUEST else unless expect EXPECTATION_FAILED said)
+pub fields_decide : (minor : ℕ) (fields : List (List ℕ × List ℕ)) (host expect : Bool) (said : Result Framing ℕ) → is_host_fault minor (values_of host_name fields) ≡ host
+    → said ≡ framing_said minor (coding_lines (values_of transfer_encoding_name fields)) (length_lines (values_of content_length_name fields))
+    → is_expect_fault minor (values_of expect_name fields) ≡ expect
+    → fields_say minor fields ≡ (if host then Err bad_request else unless expect expectation_failed said)
 unfolding fields_say
 fields_decide minor fields host expect said h is e =
-    let coded = values_of TRANSFER_ENCODING.now fields in
-    let long = values_of CONTENT_LENGTH.now fields in
-    let other = is_expect_fault minor (values_of EXPECT.now fields) in
-    checked_by (is_host_fault minor (values_of HOST.now fields)) other EXPECTATION_FAILED (framing_checks minor coded long) (framing_by fields)
-    ∙ ap (λ (b : Bool). if b then Err BAD_REQUEST else unless other EXPECTATION_FAILED (decided (first_fault (framing_checks minor coded long)) (framing_by fields))) h
-    ∙ ap (λ (b : Bool). if host then Err BAD_REQUEST else unless b EXPECTATION_FAILED (decided (first_fault (framing_checks minor coded long)) (framing_by fields))) e
-    ∙ ap (λ (r : Result Framing ℕ). if host then Err BAD_REQUEST else unless expect EXPECTATION_FAILED r) (sym (is ∙ framing_said_is minor coded long))
+    let coded = values_of transfer_encoding_name fields in
+    let long = values_of content_length_name fields in
+    let other = is_expect_fault minor (values_of expect_name fields) in
+    checked_by (is_host_fault minor (values_of host_name fields)) other expectation_failed (framing_checks minor coded long) (framing_by fields)
+    ∙ ap (λ (b : Bool). if b then Err bad_request else unless other expectation_failed (decided (first_fault (framing_checks minor coded long)) (framing_by fields))) h
+    ∙ ap (λ (b : Bool). if host then Err bad_request else unless b expectation_failed (decided (first_fault (framing_checks minor coded long)) (framing_by fields))) e
+    ∙ ap (λ (r : Result Framing ℕ). if host then Err bad_request else unless expect expectation_failed r) (sym (is ∙ framing_said_is minor coded long))
 
 -- where the fields say a fault, it is the first, and where they say a framing there is none
 pub fault_of : (minor : ℕ) (fields : List (List ℕ × List ℕ)) (code : ℕ) → fields_say minor fields ≡ Err code → first_fault (field_checks minor fields) ≡ Some code

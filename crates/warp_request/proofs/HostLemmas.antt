@@ -4,7 +4,7 @@ use Rattle.std.specs.List.{list_all}
 use Rattle.std.specs.Str.{str_eq_ignore_ascii_case}
 use Rattle.warp_request.specs.declared.host.HostLines.{HostLines}
 use Rattle.warp_request.specs.declared.host.HostLines.TheVariants.{Absent, Right, Wrong}
-use Rattle.warp_request.specs.declared.names.TheConstants.{HOST}
+use Rattle.warp_request.specs.LimitsAndWords.{host_name}
 use Rattle.warp_request.specs.Fields.{values_of, is_host_byte, is_host_fault}
 use Rattle.warp_request.specs.NamedLines.{host_lines, host_with}
 use Rattle.warp_request.proofs.FieldLemmas.{values_of-same, values_of-other}
@@ -37,11 +37,11 @@ host_fault_is minor (a ∷ []) = one_fault (list_all is_host_byte a) minor
 host_fault_is minor (a ∷ b ∷ values) = refl
 
 -- one more field
-pub host_lines-same : (fields : List (List ℕ × List ℕ)) (name value : List ℕ) → str_eq_ignore_ascii_case name HOST.now ≡ true
-    → host_lines (values_of HOST.now (fields ++ (name, value) ∷ [])) ≡ host_with (host_lines (values_of HOST.now fields)) value
+pub host_lines-same : (fields : List (List ℕ × List ℕ)) (name value : List ℕ) → str_eq_ignore_ascii_case name host_name ≡ true
+    → host_lines (values_of host_name (fields ++ (name, value) ∷ [])) ≡ host_with (host_lines (values_of host_name fields)) value
 host_lines-same fields name value same =
-    ap host_lines (values_of-same HOST.now fields (name, value) same) ∙ host_lines-push (values_of HOST.now fields) value
+    ap host_lines (values_of-same host_name fields (name, value) same) ∙ host_lines-push (values_of host_name fields) value
 
-pub host_lines-other : (fields : List (List ℕ × List ℕ)) (name value : List ℕ) → str_eq_ignore_ascii_case name HOST.now ≡ false
-    → host_lines (values_of HOST.now (fields ++ (name, value) ∷ [])) ≡ host_lines (values_of HOST.now fields)
-host_lines-other fields name value other = ap host_lines (values_of-other HOST.now fields (name, value) other)
+pub host_lines-other : (fields : List (List ℕ × List ℕ)) (name value : List ℕ) → str_eq_ignore_ascii_case name host_name ≡ false
+    → host_lines (values_of host_name (fields ++ (name, value) ∷ [])) ≡ host_lines (values_of host_name fields)
+host_lines-other fields name value other = ap host_lines (values_of-other host_name fields (name, value) other)

@@ -9,7 +9,7 @@ use Rattle.std.proofs.lemmas.List.Folds.{list_all-append}
 use Rattle.std.proofs.lemmas.List.Splits.{length-slice_split}
 use Rattle.std.proofs.lemmas.List.Sums.{fold-append}
 use Rattle.httparse.specs.Grammar.{trim_ows}
-use Rattle.warp_request.specs.declared.names.TheConstants.{CONTENT_LENGTH}
+use Rattle.warp_request.specs.LimitsAndWords.{content_length_name}
 use Rattle.warp_request.specs.Content.{decimal_of, is_digit, is_length_fault, is_numeral, length_in}
 use Rattle.warp_request.specs.Fields.{members_in, members_of, values_of}
 use Rattle.warp_request.specs.NamedLines.{Lengths, absent, number, wrong, length_lines, length_with, lengths_with, number_behind, skip_zeros}
@@ -17,16 +17,16 @@ use Rattle.warp_request.proofs.FieldLemmas.{values_of-same, values_of-other}
 use Rattle.warp_request.proofs.NumberLemmas.{begins_right, same_number, skip_decimal, skip_digits, skip_right}
 
 -- one more field
-pub length_lines-same : (fields : List (List ℕ × List ℕ)) (name value : List ℕ) → str_eq_ignore_ascii_case name CONTENT_LENGTH.now ≡ true
-    → length_lines (values_of CONTENT_LENGTH.now (fields ++ (name, value) ∷ [])) ≡ lengths_with (length_lines (values_of CONTENT_LENGTH.now fields)) value
+pub length_lines-same : (fields : List (List ℕ × List ℕ)) (name value : List ℕ) → str_eq_ignore_ascii_case name content_length_name ≡ true
+    → length_lines (values_of content_length_name (fields ++ (name, value) ∷ [])) ≡ lengths_with (length_lines (values_of content_length_name fields)) value
 unfolding length_lines
 length_lines-same fields name value same =
-    ap length_lines (values_of-same CONTENT_LENGTH.now fields (name, value) same)
-    ∙ fold-append lengths_with absent (values_of CONTENT_LENGTH.now fields) (value ∷ [])
+    ap length_lines (values_of-same content_length_name fields (name, value) same)
+    ∙ fold-append lengths_with absent (values_of content_length_name fields) (value ∷ [])
 
-pub length_lines-other : (fields : List (List ℕ × List ℕ)) (name value : List ℕ) → str_eq_ignore_ascii_case name CONTENT_LENGTH.now ≡ false
-    → length_lines (values_of CONTENT_LENGTH.now (fields ++ (name, value) ∷ [])) ≡ length_lines (values_of CONTENT_LENGTH.now fields)
-length_lines-other fields name value other = ap length_lines (values_of-other CONTENT_LENGTH.now fields (name, value) other)
+pub length_lines-other : (fields : List (List ℕ × List ℕ)) (name value : List ℕ) → str_eq_ignore_ascii_case name content_length_name ≡ false
+    → length_lines (values_of content_length_name (fields ++ (name, value) ∷ [])) ≡ length_lines (values_of content_length_name fields)
+length_lines-other fields name value other = ap length_lines (values_of-other content_length_name fields (name, value) other)
 
 -- ---- what the list of lengths says
 

@@ -21,3 +21,5 @@ pub mod PartLemmas
 pub mod RoomLemmas
 pub mod ShownLemmas
 pub mod TargetLemmas
+pub mod WithLemmas
+pub mod StatusLemmas

@@ -6,7 +6,8 @@ use Rattle.std.proofs.lemmas.List.Elements.{All-head, All-tail}
 use Rattle.httparse.specs.Grammar.{RequestHead, IsRequestHead, print_request, print_blank, print_end, print_version, print_section, print_field, Field, IsField, LineEnd, crlf, lf}
 use Rattle.httparse.specs.Spans.{RequestExceeds}
 use Rattle.httparse.proofs.GrammarLemmas.{print_request-append}
-use Rattle.warp_request.specs.declared.limits.TheConstants.{HEAD_LIMIT, FIELD_ROOM}
+use Rattle.warp_request.specs.declared.limits.TheConstants.{FIELD_ROOM}
+use Rattle.warp_request.specs.LimitsAndWords.{head_limit}
 
 fields_long : (fs : List Field) → All IsField fs → 3 * length fs ≤ length (flat_map print_field fs)
 fields_long [] all = omega arith
@@ -19,7 +20,7 @@ fields_long (f ∷ fs) all =
     end_long crlf = omega arith
     end_long lf = omega arith
 
-pub room_enough : (w : List ℕ) → length w ≤ HEAD_LIMIT → RequestExceeds FIELD_ROOM w → ⊥
+pub room_enough : (w : List ℕ) → length w ≤ head_limit → RequestExceeds FIELD_ROOM w → ⊥
 room_enough w fits x =
     let h = x.3 in
     let reads = x.4 in

@@ -8,7 +8,8 @@ use Rattle.httparse.specs.declared.Error.TheVariants.{HeaderName, HeaderValue, N
 use Rattle.httparse.specs.declared.spans.Span.{Span}
 use Rattle.httparse.specs.declared.spans.HeaderSpan.{HeaderSpan}
 use Rattle.httparse.specs.declared.spans.RequestSpans.{RequestSpans}
-use Rattle.warp_request.specs.declared.limits.TheConstants.{HEAD_LIMIT, FIELD_ROOM}
+use Rattle.warp_request.specs.declared.limits.TheConstants.{FIELD_ROOM}
+use Rattle.warp_request.specs.LimitsAndWords.{head_limit}
 use Rattle.warp_request.specs.declared.verdict.Next.{Next}
 use Rattle.warp_request.specs.declared.verdict.Next.TheVariants.{More, Refuse, Head}
 use Rattle.warp_request.specs.Checks.{parts_of}
@@ -41,7 +42,7 @@ LiesIn-take s n (Refuse code) x = x
 LiesIn-take s n (Head h) x = (x.0, x.1, omega (arith, x.2, length-take n s))
 
 -- whatever the parser's error is, no head is there
-pub by_error : (w : List ℕ) (e : Error) → length w ≤ HEAD_LIMIT → (e ≢ TooManyHeaders → NeverHasRequest w)
+pub by_error : (w : List ℕ) (e : Error) → length w ≤ head_limit → (e ≢ TooManyHeaders → NeverHasRequest w)
     → (◌≡◌ {A = Error} e TooManyHeaders → RequestExceeds FIELD_ROOM w) → NeverHasRequest w
 by_error w HeaderName fits other many = other (λ p. cc)
 by_error w HeaderValue fits other many = other (λ p. cc)

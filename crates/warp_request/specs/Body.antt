@@ -2,9 +2,8 @@
 use Rattle.std.specs.Prelude.{ℕ, zero, suc, ◌+◌, ◌*◌, ◌-◌, Bool, true, false, ◌&&◌, ◌||◌, List, [], ◌∷◌, Option, Some, None, is_some, length, take, drop, fold, unwrap_or, if◌then◌else◌, ◌==◌, nat_le, nat_lt}
 use Rattle.std.specs.List.{prefix_len}
 use Rattle.httparse.specs.Ascii.{line_feed, carriage_return}
-use Rattle.warp_request.specs.declared.body_place.TheConstants.{CHUNK_DIGITS, CHUNK_LINE_LIMIT, TRAILER_LIMIT}
-use Rattle.warp_request.specs.declared.limits.TheConstants.{BODY_LIMIT}
-use Rattle.warp_request.specs.declared.status.TheConstants.{BAD_REQUEST, CONTENT_TOO_LARGE, FIELDS_TOO_LARGE}
+use Rattle.warp_request.specs.LimitsAndWords.{body_limit, chunk_digits, chunk_line_limit, trailer_limit}
+use Rattle.warp_response.specs.Statuses.{bad_request, content_too_large, header_fields_too_large}
 use Rattle.warp_request.specs.declared.verdict.Framing.{Framing}
 use Rattle.warp_request.specs.declared.verdict.Framing.TheVariants as Framings
 
@@ -55,13 +54,13 @@ behind_extension (b ∷ s) = if is_extension_byte b then behind_extension s else
 -- CRLF, behind which a number is said
 unfoldable pub line_end : ℕ → List ℕ → Part
 line_end n [] = cut
-line_end n (b ∷ []) = if b == carriage_return then cut else wrong BAD_REQUEST
-line_end n (b ∷ c ∷ s) = if b == carriage_return && c == line_feed then past n s else wrong BAD_REQUEST
+line_end n (b ∷ []) = if b == carriage_return then cut else wrong bad_request
+line_end n (b ∷ c ∷ s) = if b == carriage_return && c == line_feed then past n s else wrong bad_request
 
 -- what follows the digits of a chunk line: CRLF, or an extension and then CRLF
 unfoldable pub behind_digits : List ℕ → List ℕ → Part
 behind_digits digits [] = cut
-behind_digits [] (b ∷ s) = wrong BAD_REQUEST
+behind_digits [] (b ∷ s) = wrong bad_request
 behind_digits (d ∷ digits) (b ∷ s) =
     if opens_extension b then line_end (number_of (d ∷ digits)) (behind_extension s) else line_end (number_of (d ∷ digits)) (b ∷ s)
 
@@ -69,16 +68,16 @@ behind_digits (d ∷ digits) (b ∷ s) =
 unfoldable pub line_of : List ℕ → Part
 line_of s =
     let n = prefix_len is_hex s in
-    if nat_lt CHUNK_DIGITS n then wrong BAD_REQUEST else behind_digits (take n s) (drop n s)
+    if nat_lt chunk_digits n then wrong bad_request else behind_digits (take n s) (drop n s)
 
 -- lines of bytes other than CR, LF and NUL, each ended by CRLF, and an empty line as their end; `fresh` says
 -- that no byte of a line came yet
 unfoldable pub section_of : Bool → List ℕ → Part
 section_of fresh [] = cut
-section_of fresh (b ∷ []) = if b == carriage_return then cut else (if b == line_feed || b == 0 then wrong BAD_REQUEST else cut)
+section_of fresh (b ∷ []) = if b == carriage_return then cut else (if b == line_feed || b == 0 then wrong bad_request else cut)
 section_of fresh (b ∷ c ∷ s) =
-    if b == carriage_return then (if c == line_feed then (if fresh then past 0 s else section_of true s) else wrong BAD_REQUEST)
-    else (if b == line_feed || b == 0 then wrong BAD_REQUEST else section_of false (c ∷ s))
+    if b == carriage_return then (if c == line_feed then (if fresh then past 0 s else section_of true s) else wrong bad_request)
+    else (if b == line_feed || b == 0 then wrong bad_request else section_of false (c ∷ s))
 
 -- a part that has to end within its first bytes is refused at the last of these
 abbrev pub capped : ℕ → ℕ → List ℕ → List ℕ → Part → Part
@@ -88,11 +87,11 @@ capped limit code s w (past n rest) = past n (drop (length w - length rest) s)
 
 -- a chunk line within its first 256 bytes
 abbrev pub chunk_line : List ℕ → Part
-chunk_line s = let w = take CHUNK_LINE_LIMIT s in capped CHUNK_LINE_LIMIT BAD_REQUEST s w (line_of w)
+chunk_line s = let w = take chunk_line_limit s in capped chunk_line_limit bad_request s w (line_of w)
 
 -- a trailer section within its first 4,096 bytes
 abbrev pub trailers : List ℕ → Part
-trailers s = let w = take TRAILER_LIMIT s in capped TRAILER_LIMIT FIELDS_TOO_LARGE s w (section_of true w)
+trailers s = let w = take trailer_limit s in capped trailer_limit header_fields_too_large s w (section_of true w)
 
 -- what follows the content of a chunk: its CRLF, and then the next chunk
 abbrev pub behind_content : (List ℕ → Part) → Part → Part
@@ -105,17 +104,17 @@ abbrev pub behind_line : (ℕ → List ℕ → Part) → ℕ → Part → Part
 behind_line next sum cut = cut
 behind_line next sum (wrong code) = wrong code
 behind_line next sum (past size s) =
-    if nat_lt BODY_LIMIT (sum + size) then wrong CONTENT_TOO_LARGE
+    if nat_lt body_limit (sum + size) then wrong content_too_large
     else (if size == 0 then trailers s else behind_content (next (sum + size)) (line_end 0 (drop size s)))
 
 -- so many chunks at most, behind chunks whose sizes have a sum
 unfoldable pub chunks : ℕ → ℕ → List ℕ → Part
-chunks zero sum s = wrong CONTENT_TOO_LARGE
+chunks zero sum s = wrong content_too_large
 chunks (suc left) sum s = behind_line (chunks left) sum (chunk_line s)
 
 -- a chunked body: each chunk before the last has content, so there are no more of them than bytes of content
 abbrev pub chunked : List ℕ → Part
-chunked s = chunks (BODY_LIMIT + 1) 0 s
+chunked s = chunks (body_limit + 1) 0 s
 
 -- the verdict on a body of which this part was read of so many bytes
 abbrev pub verdict_of : ℕ → Part → BodyVerdict

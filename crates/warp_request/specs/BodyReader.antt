@@ -2,8 +2,8 @@
 use Rattle.std.specs.Prelude.{◌≡◌, ℕ, suc, ◌+◌, ◌<◌, ◌≤◌, ◌^◌, true, false, List, ◌∷◌, ◌++◌, Option, Some, None, length, drop}
 use Rattle.std.specs.List.{list_all}
 use Rattle.httparse.specs.Ascii.{carriage_return}
-use Rattle.warp_request.specs.declared.body_place.Place.{Place}
-use Rattle.warp_request.specs.declared.body_place.Place.TheVariants as Places
+use Rattle.warp_request.specs.declared.body_place.BodyPlace.{BodyPlace}
+use Rattle.warp_request.specs.declared.body_place.BodyPlace.TheVariants as Places
 use Rattle.warp_request.specs.declared.body_place.TrailerLine.{TrailerLine}
 use Rattle.warp_request.specs.declared.body_place.TrailerLine.TheVariants as Lines
 use Rattle.warp_request.specs.declared.body_place.TrailerStep.{TrailerStep}
@@ -11,9 +11,8 @@ use Rattle.warp_request.specs.declared.body_place.TrailerStep.TheVariants as Ste
 use Rattle.warp_request.specs.declared.body_reader.BodyReader.{BodyReader}
 use Rattle.warp_request.specs.declared.body_reader.BodyState.{BodyState}
 use Rattle.warp_request.specs.declared.body_reader.BodyState.TheVariants as States
-use Rattle.warp_request.specs.declared.body_place.TheConstants.{CHUNK_DIGITS, CHUNK_LINE_LIMIT, TRAILER_LIMIT}
-use Rattle.warp_request.specs.declared.limits.TheConstants.{BODY_LIMIT}
-use Rattle.warp_request.specs.declared.status.TheConstants.{BAD_REQUEST}
+use Rattle.warp_request.specs.LimitsAndWords.{body_limit, chunk_digits, chunk_line_limit, trailer_limit}
+use Rattle.warp_response.specs.Statuses.{bad_request}
 use Rattle.warp_request.specs.declared.verdict.Framing.{Framing}
 use Rattle.warp_request.specs.declared.verdict.Framing.TheVariants as Framings
 use Rattle.warp_request.specs.Body.{BodyVerdict, more, refused, whole, Part, past, wrong, behind_content, behind_extension, body_of, chunked, chunks, is_hex, line_end, line_of, number_of, section_of, trailers}
@@ -27,8 +26,8 @@ state_verdict (States.Refuse code) used = refused code
 -- behind these bytes a chunk line begins, with so many chunks left behind its own and content of this sum before it
 pub record HasChunks (before : List ℕ) (left sum : ℕ) : Type 0 where
   pub goes_on : (t : List ℕ) → chunked (before ++ t) ≡ chunks (suc left) sum t
-  pub enough : BODY_LIMIT ≤ left + sum
-  pub fits : sum ≤ BODY_LIMIT
+  pub enough : body_limit ≤ left + sum
+  pub fits : sum ≤ body_limit
 
 -- the bytes end in the front of a chunk line, of which this holds
 pub record InLine (Holds : List ℕ → Type 0) (sum : ℕ) (fed : List ℕ) : Type 0 where
@@ -43,21 +42,21 @@ pub record InLine (Holds : List ℕ → Type 0) (sum : ℕ) (fed : List ℕ) : T
 pub record IsDigits (count number : ℕ) (line : List ℕ) : Type 0 where
   pub all : list_all is_hex line ≡ true
   pub counted : length line ≡ count
-  pub few : count ≤ CHUNK_DIGITS
+  pub few : count ≤ chunk_digits
   pub means : number_of line ≡ number
   pub small : number < 16 ^ count
 
 -- the front of a chunk line, which may have so many more bytes, leaves this to be read of the bytes that follow
 pub record LeavesOfLine (room : ℕ) (rest : List ℕ → Part) (line : List ℕ) : Type 0 where
-  pub kept : length line + room ≡ CHUNK_LINE_LIMIT
+  pub kept : length line + room ≡ chunk_line_limit
   pub reads : (t : List ℕ) → line_of (line ++ t) ≡ rest t
 
 -- the bytes end in a chunk or the CRLF behind it; this is what is left of them
 pub record InContent (rest : List ℕ → List ℕ) (sum : ℕ) (fed : List ℕ) : Type 0 where
   pub left : ℕ
   pub reads : (t : List ℕ) → chunked (fed ++ t) ≡ behind_content (chunks (suc left) sum) (line_end 0 (rest t))
-  pub enough : BODY_LIMIT ≤ left + sum
-  pub fits : sum ≤ BODY_LIMIT
+  pub enough : body_limit ≤ left + sum
+  pub fits : sum ≤ body_limit
 
 -- what is left of a trailer section at a place in one of its lines
 abbrev pub section_at : TrailerLine → List ℕ → Part
@@ -72,34 +71,34 @@ pub record InTrailers (room : ℕ) (line : TrailerLine) (fed : List ℕ) : Type 
   pub lines : List ℕ
   pub parts : fed ≡ before ++ lines
   pub some : 1 ≤ room
-  pub kept : length lines + room ≡ TRAILER_LIMIT
+  pub kept : length lines + room ≡ trailer_limit
   pub goes_on : (t : List ℕ) → chunked (before ++ t) ≡ trailers t
   pub reads : (t : List ℕ) → section_of true (lines ++ t) ≡ section_at line t
 
 -- what the reader says where it stands at a place
-abbrev pub state_at : Place → BodyState
+abbrev pub state_at : BodyPlace → BodyState
 state_at Places.Whole = States.Whole
 state_at (Places.Refused code) = States.Refuse code
 state_at _ = States.More
 
--- where the reading of a body stands, behind these bytes of it
-abbrev pub StandsAt : Place → ℕ → Framing → List ℕ → Type 0
-StandsAt (Places.Content behind) sum framing fed = framing ≡ Framings.Length (length fed + (behind + 1))
-StandsAt (Places.Size count number) sum framing fed = (framing ≡ Framings.Chunked) × InLine (IsDigits count number) sum fed
-StandsAt (Places.Extension room number) sum framing fed =
+-- where the beginning of a body stands, behind these bytes of it
+abbrev pub RepresentsAt : BodyPlace → ℕ → Framing → List ℕ → Type 0
+RepresentsAt (Places.Content behind) sum framing fed = framing ≡ Framings.Length (length fed + (behind + 1))
+RepresentsAt (Places.Size count number) sum framing fed = (framing ≡ Framings.Chunked) × InLine (IsDigits count number) sum fed
+RepresentsAt (Places.Extension room number) sum framing fed =
     (framing ≡ Framings.Chunked) × (1 ≤ room) × InLine (LeavesOfLine room (λ t. line_end number (behind_extension t))) sum fed
-StandsAt (Places.LineFeed number) sum framing fed =
+RepresentsAt (Places.LineFeed number) sum framing fed =
     (framing ≡ Framings.Chunked) × ((room : ℕ) × (1 ≤ room) × InLine (LeavesOfLine room (λ t. line_end number (carriage_return ∷ t))) sum fed)
-StandsAt (Places.Chunk behind) sum framing fed = (framing ≡ Framings.Chunked) × InContent (λ t. drop (behind + 1) t) sum fed
-StandsAt Places.ChunkReturn sum framing fed = (framing ≡ Framings.Chunked) × InContent (λ t. t) sum fed
-StandsAt Places.ChunkLineFeed sum framing fed = (framing ≡ Framings.Chunked) × InContent (λ t. carriage_return ∷ t) sum fed
-StandsAt (Places.Trailers room line) sum framing fed = (framing ≡ Framings.Chunked) × InTrailers room line fed
-StandsAt Places.Whole sum framing fed = (t : List ℕ) → body_of framing (fed ++ t) ≡ whole (length fed)
-StandsAt (Places.Refused code) sum framing fed = (t : List ℕ) → body_of framing (fed ++ t) ≡ refused code
+RepresentsAt (Places.Chunk behind) sum framing fed = (framing ≡ Framings.Chunked) × InContent (λ t. drop (behind + 1) t) sum fed
+RepresentsAt Places.ChunkReturn sum framing fed = (framing ≡ Framings.Chunked) × InContent (λ t. t) sum fed
+RepresentsAt Places.ChunkLineFeed sum framing fed = (framing ≡ Framings.Chunked) × InContent (λ t. carriage_return ∷ t) sum fed
+RepresentsAt (Places.Trailers room line) sum framing fed = (framing ≡ Framings.Chunked) × InTrailers room line fed
+RepresentsAt Places.Whole sum framing fed = (t : List ℕ) → body_of framing (fed ++ t) ≡ whole (length fed)
+RepresentsAt (Places.Refused code) sum framing fed = (t : List ℕ) → body_of framing (fed ++ t) ≡ refused code
 
 -- the reader of a body of this framing has used these bytes
-abbrev pub StandsFor : BodyReader → Framing → List ℕ → Type 0
-StandsFor reader framing fed = StandsAt reader.place reader.sum framing fed
+abbrev pub Represents : BodyReader → Framing → List ℕ → Type 0
+Represents reader framing fed = RepresentsAt reader.place reader.sum framing fed
 
 -- what a reader says, whatever it was fed
 abbrev pub state_of : BodyReader → BodyState
@@ -108,7 +107,7 @@ state_of reader = state_at reader.place
 -- what a byte of the trailer section leaves to be read of the bytes that follow
 abbrev pub step_leaves : TrailerStep → List ℕ → Part
 step_leaves Steps.Ends t = past 0 t
-step_leaves Steps.Breaks t = wrong BAD_REQUEST
+step_leaves Steps.Breaks t = wrong bad_request
 step_leaves (Steps.Goes line) t = section_at line t
 
 -- how many bytes of a piece belong to content that has one more byte and some behind it, and how many are left behind the next
@@ -117,11 +116,11 @@ Skips behind size used None = (used ≡ behind + 1) × (used ≤ size)
 Skips behind size used (Some rest) = (used ≡ size) × (1 ≤ size) × (rest + size ≡ behind)
 
 -- content of a known length of which so many bytes are left behind the next, or none
-abbrev pub place_in_content : Option ℕ → Place
+abbrev pub place_in_content : Option ℕ → BodyPlace
 place_in_content None = Places.Whole
 place_in_content (Some behind) = Places.Content behind
 
 -- a chunk of which so many bytes are left behind the next, or none
-abbrev pub place_in_chunk : Option ℕ → Place
+abbrev pub place_in_chunk : Option ℕ → BodyPlace
 place_in_chunk None = Places.ChunkReturn
 place_in_chunk (Some behind) = Places.Chunk behind

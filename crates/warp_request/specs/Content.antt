@@ -3,7 +3,7 @@
 use Rattle.std.specs.Prelude.{ℕ, ◌+◌, ◌*◌, ◌-◌, Bool, true, false, not, ◌&&◌, List, [], ◌∷◌, length, fold, get_or, if◌then◌else◌, ◌==◌, nat_le, nat_lt}
 use Rattle.std.specs.List.{list_any, list_all, filter, count_by}
 use Rattle.std.specs.Str.{str_eq_ignore_ascii_case}
-use Rattle.warp_request.specs.declared.names.TheConstants.{CHUNKED, CONTINUE}
+use Rattle.warp_request.specs.LimitsAndWords.{chunked_word, continue_word}
 use Rattle.warp_request.specs.declared.verdict.Framing.{Framing}
 use Rattle.warp_request.specs.declared.verdict.Framing.TheVariants as framings
 use Rattle.warp_request.specs.Fields.{members_of}
@@ -19,7 +19,7 @@ codings_of values = filter (λ member. nat_lt 0 (length member)) (members_of val
 
 -- a coding is `chunked`
 abbrev pub is_chunked : List ℕ → Bool
-is_chunked coding = str_eq_ignore_ascii_case coding CHUNKED.now
+is_chunked coding = str_eq_ignore_ascii_case coding chunked_word
 
 -- the last coding is `chunked`, and no other one is (RFC 9112, sections 6.1 and 6.3)
 unfoldable pub ends_in_chunked : List (List ℕ) → Bool
@@ -56,7 +56,7 @@ is_length_fault members = not (list_all (λ member. is_numeral member && decimal
 
 -- an expectation is `100-continue`, the only one that there is (RFC 9110, section 10.1.1)
 abbrev pub is_continue : List ℕ → Bool
-is_continue value = str_eq_ignore_ascii_case value CONTINUE.now
+is_continue value = str_eq_ignore_ascii_case value continue_word
 
 -- another is expected; under HTTP/1.0 none is looked at
 abbrev pub is_expect_fault : ℕ → List (List ℕ) → Bool

@@ -5,7 +5,7 @@ use Rattle.std.specs.Char.{is_ascii_alphanumeric}
 use Rattle.std.specs.Str.{str_eq_ignore_ascii_case}
 use Rattle.httparse.specs.Ascii.{comma}
 use Rattle.httparse.specs.Grammar.{trim_ows}
-use Rattle.warp_request.specs.declared.names.TheConstants.{CLOSE, KEEP_ALIVE}
+use Rattle.warp_request.specs.LimitsAndWords.{close_word, keep_alive_word}
 
 -- the values of the lines of a name, in order (RFC 9110, section 5.3)
 unfoldable pub values_of : List ℕ → List (List ℕ × List ℕ) → List (List ℕ)
@@ -39,4 +39,4 @@ is_host_fault minor (value ∷ other ∷ more) = true
 
 -- the connection stays open behind the answer (RFC 9112, section 9.3)
 unfoldable pub stays_open : ℕ → List (List ℕ) → Bool
-stays_open minor values = not (has_member CLOSE.now values) && (minor == 1 || has_member KEEP_ALIVE.now values)
+stays_open minor values = not (has_member close_word values) && (minor == 1 || has_member keep_alive_word values)

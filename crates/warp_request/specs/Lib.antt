@@ -1,3 +1,4 @@
+pub mod Beginning
 pub mod Body
 pub mod BodyLaws
 pub mod BodyReader
@@ -6,11 +7,11 @@ pub mod Content
 pub mod Decide
 pub mod Fields
 pub mod Laws
+pub mod LimitsAndWords
 pub mod Lines
 pub mod NamedLines
 pub mod Next
 pub mod Parsed
-pub mod Reading
 pub mod Shown
 pub mod Target
 pub mod Verdict

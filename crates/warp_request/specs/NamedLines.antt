@@ -1,24 +1,47 @@
--- What the lines of each name say together, as the code keeps it.
-use Rattle.std.specs.Prelude.{ℕ, Bool, true, false, ◌||◌, List, [], ◌∷◌, Option, Some, None, Result, Ok, Err, bytes_eq, fold, length, if◌then◌else◌, ◌==◌, nat_lt}
+-- Inner: what the lines of each name say together, as the code keeps it.
+use Rattle.std.specs.Prelude.{◌≡◌, ℕ, Bool, true, false, ◌||◌, List, [], ◌∷◌, Option, Some, None, Result, Ok, Err, bytes_eq, fold, length, if◌then◌else◌, ◌==◌, nat_lt}
 use Rattle.std.specs.List.{list_all}
+use Rattle.std.specs.Str.{str_eq_ignore_ascii_case}
 use Rattle.warp_request.specs.declared.coding.CodingLines.{CodingLines}
 use Rattle.warp_request.specs.declared.coding.CodingLines.TheVariants as codings
 use Rattle.warp_request.specs.declared.connection.ConnectionLines.{ConnectionLines}
 use Rattle.warp_request.specs.declared.expect.ExpectLines.{ExpectLines}
 use Rattle.warp_request.specs.declared.expect.ExpectLines.TheVariants as expects
 use Rattle.warp_request.specs.declared.fields.NamedLines.{NamedLines}
+use Rattle.warp_request.specs.declared.names.KnownName.{KnownName}
+use Rattle.warp_request.specs.declared.names.KnownName.TheVariants as names
 use Rattle.warp_request.specs.declared.host.HostLines.{HostLines}
 use Rattle.warp_request.specs.declared.host.HostLines.TheVariants.{Absent, Right, Wrong}
 use Rattle.warp_request.specs.declared.length.LengthLines.{LengthLines}
 use Rattle.warp_request.specs.declared.length.LengthLines.TheVariants as lengths
-use Rattle.warp_request.specs.declared.limits.TheConstants.{BODY_LIMIT}
-use Rattle.warp_request.specs.declared.names.TheConstants.{HOST, CONNECTION, TRANSFER_ENCODING, CONTENT_LENGTH, EXPECT, CLOSE, KEEP_ALIVE}
-use Rattle.warp_request.specs.declared.status.TheConstants.{BAD_REQUEST, CONTENT_TOO_LARGE, NOT_IMPLEMENTED}
+use Rattle.warp_request.specs.LimitsAndWords.{body_limit, host_name, connection_name, transfer_encoding_name, content_length_name, expect_name, close_word, keep_alive_word}
+use Rattle.warp_response.specs.Statuses.{bad_request, content_too_large, not_implemented}
 use Rattle.warp_request.specs.declared.verdict.Framing.{Framing}
 use Rattle.warp_request.specs.declared.verdict.Framing.TheVariants as framings
 use Rattle.warp_request.specs.Checks.{field_checks, first_fault, framing_by}
 use Rattle.warp_request.specs.Content.{decimal_of, is_chunked, is_continue, is_numeral}
 use Rattle.warp_request.specs.Fields.{values_of, has_member, has_word, is_host_byte, members_in}
+
+-- two names are the same but for the case of ASCII letters
+abbrev pub is_name : List ℕ → List ℕ → Bool
+is_name name text = str_eq_ignore_ascii_case name text
+
+-- a name is none of those that decide about a request
+pub record IsOther (name : List ℕ) : Type 0 where
+  pub host : is_name name host_name ≡ false
+  pub connection : is_name name connection_name ≡ false
+  pub codings : is_name name transfer_encoding_name ≡ false
+  pub lengths : is_name name content_length_name ≡ false
+  pub expect : is_name name expect_name ≡ false
+
+-- a name is the one that was found
+abbrev pub IsKnown : List ℕ → KnownName → Type 0
+IsKnown name names.Host = is_name name host_name ≡ true
+IsKnown name names.Connection = is_name name connection_name ≡ true
+IsKnown name names.TransferEncoding = is_name name transfer_encoding_name ≡ true
+IsKnown name names.ContentLength = is_name name content_length_name ≡ true
+IsKnown name names.Expect = is_name name expect_name ≡ true
+IsKnown name names.Other = IsOther name
 
 -- what Host lines with these values say
 unfoldable pub host_lines : List (List ℕ) → HostLines
@@ -35,15 +58,15 @@ host_with Wrong value = Wrong
 -- what Connection lines with these values say
 unfoldable pub connection_lines : List (List ℕ) → ConnectionLines
 connection_lines values = record {
-  close = has_member CLOSE.now values;
-  keep_alive = has_member KEEP_ALIVE.now values;
+  close = has_member close_word values;
+  keep_alive = has_member keep_alive_word values;
 }
 
 -- with one more line
 abbrev pub connection_with : ConnectionLines → List ℕ → ConnectionLines
 connection_with lines value = record {
-  close = lines.close || has_word CLOSE.now value;
-  keep_alive = lines.keep_alive || has_word KEEP_ALIVE.now value;
+  close = lines.close || has_word close_word value;
+  keep_alive = lines.keep_alive || has_word keep_alive_word value;
 }
 
 -- Transfer-Encoding lines behind the beginning of one more
@@ -143,11 +166,11 @@ lines_shown lines = record {
 
 unfoldable pub named_lines : List (List ℕ × List ℕ) → Named
 named_lines fields = record {
-  host = host_lines (values_of HOST.now fields);
-  connection = connection_lines (values_of CONNECTION.now fields);
-  codings = coding_lines (values_of TRANSFER_ENCODING.now fields);
-  lengths = length_lines (values_of CONTENT_LENGTH.now fields);
-  expect = expect_lines (values_of EXPECT.now fields);
+  host = host_lines (values_of host_name fields);
+  connection = connection_lines (values_of connection_name fields);
+  codings = coding_lines (values_of transfer_encoding_name fields);
+  lengths = length_lines (values_of content_length_name fields);
+  expect = expect_lines (values_of expect_name fields);
 }
 
 -- the framing, or the status of the fault that was found
@@ -166,21 +189,21 @@ is_absent _ = false
 
 -- the framing that a number says, within the limit
 abbrev pub framing_within : ℕ → Result Framing ℕ
-framing_within n = if nat_lt BODY_LIMIT n then Err CONTENT_TOO_LARGE else Ok (framings.Length n)
+framing_within n = if nat_lt body_limit n then Err content_too_large else Ok (framings.Length n)
 
 -- the framing where no Transfer-Encoding line is there
 abbrev pub framing_by_length : Lengths → Result Framing ℕ
 framing_by_length absent = Ok framings.None
 framing_by_length (number digits) = framing_within (decimal_of digits)
-framing_by_length wrong = Err BAD_REQUEST
+framing_by_length wrong = Err bad_request
 
 -- the framing where Transfer-Encoding lines of this kind are there, and no other length
 abbrev pub framing_by_codings : CodingLines → Result Framing ℕ
 framing_by_codings codings.Chunked = Ok framings.Chunked
-framing_by_codings codings.OthersChunked = Err NOT_IMPLEMENTED
-framing_by_codings _ = Err BAD_REQUEST
+framing_by_codings codings.OthersChunked = Err not_implemented
+framing_by_codings _ = Err bad_request
 
 -- the framing in a head of this minor version
 abbrev pub framing_said : ℕ → CodingLines → Lengths → Result Framing ℕ
 framing_said minor codings.Absent lengths = framing_by_length lengths
-framing_said minor lines lengths = if minor == 0 then Err BAD_REQUEST else (if is_absent lengths then framing_by_codings lines else Err BAD_REQUEST)
+framing_said minor lines lengths = if minor == 0 then Err bad_request else (if is_absent lengths then framing_by_codings lines else Err bad_request)

@@ -3,9 +3,9 @@
 ghost use Rattle.std.specs.Prelude.{◌≡◌, ◌++◌, Bool, List, ℕ, None, [], ◌∷◌};
 ghost use Rattle.warp_request.specs.declared.verdict.Framing.{Framing as FramingOf};
 ghost use Rattle.warp_request.specs.Body.{hex_digit as digit_of, is_extension_byte, opens_extension, section_of};
-ghost use Rattle.warp_request.specs.BodyReader.{StandsAt, place_in_chunk, place_in_content, section_at, step_leaves};
+ghost use Rattle.warp_request.specs.BodyReader.{RepresentsAt, place_in_chunk, place_in_content, section_at, step_leaves};
 
-use crate::status::{BAD_REQUEST, FIELDS_TOO_LARGE};
+use warp_response::status::{BAD_REQUEST, HEADER_FIELDS_TOO_LARGE};
 
 /// The most hexadecimal digits of a chunk's size.
 pub const CHUNK_DIGITS: u8 = 8;
@@ -48,7 +48,7 @@ enum TrailerStep {
 
 /// What the next byte of a body belongs to.
 #[derive(Clone, Copy)]
-pub(crate) enum Place {
+pub(crate) enum BodyPlace {
     /// Content of a known length: the next byte, and so many behind it.
     Content(u64),
     /// The digits of a chunk line: how many there were, and the number that they mean.
@@ -72,22 +72,22 @@ pub(crate) enum Place {
 }
 
 /// Content of a known length of which so many bytes are left behind the next, or none.
-pub(crate) fn content_place(behind: Option<u64>) -> Place
+pub(crate) fn content_place(behind: Option<u64>) -> BodyPlace
     ensures { result ≡ place_in_content behind }
 {
     match behind {
-        Some(behind) => Place::Content(behind),
-        None => Place::Whole,
+        Some(behind) => BodyPlace::Content(behind),
+        None => BodyPlace::Whole,
     }
 }
 
 /// A chunk of which so many bytes are left behind the next, or none.
-pub(crate) fn chunk_place(behind: Option<u64>) -> Place
+pub(crate) fn chunk_place(behind: Option<u64>) -> BodyPlace
     ensures { result ≡ place_in_chunk behind }
 {
     match behind {
-        Some(behind) => Place::Chunk(behind),
-        None => Place::ChunkReturn,
+        Some(behind) => BodyPlace::Chunk(behind),
+        None => BodyPlace::ChunkReturn,
     }
 }
 
@@ -104,37 +104,37 @@ fn hex_digit(byte: u8) -> Option<u64>
 }
 
 /// Behind the digits of a chunk line comes one more digit, CR or an extension.
-pub(crate) fn behind_digits(count: u8, number: u64, byte: u8) -> Place
-    ensures { (sum : ℕ) (framing : FramingOf) (fed : List ℕ) → StandsAt (Place.Size count number) sum framing fed
-        → StandsAt result sum framing (fed ++ byte ∷ []) }
+pub(crate) fn behind_digits(count: u8, number: u64, byte: u8) -> BodyPlace
+    ensures { (sum : ℕ) (framing : FramingOf) (fed : List ℕ) → RepresentsAt (BodyPlace.Size count number) sum framing fed
+        → RepresentsAt result sum framing (fed ++ byte ∷ []) }
 {
     match hex_digit(byte) {
         Some(digit) => {
             if count >= CHUNK_DIGITS {
-                return Place::Refused(BAD_REQUEST);
+                return BodyPlace::Refused(BAD_REQUEST);
             }
-            Place::Size(count + 1, number.saturating_mul(16).saturating_add(digit))
+            BodyPlace::Size(count + 1, number.saturating_mul(16).saturating_add(digit))
         }
         None => behind_number(count, number, byte),
     }
 }
 
 /// Behind all digits of a chunk line comes CR or an extension.
-fn behind_number(count: u8, number: u64, byte: u8) -> Place
+fn behind_number(count: u8, number: u64, byte: u8) -> BodyPlace
     requires { digit_of byte ≡ None }
-    ensures { (sum : ℕ) (framing : FramingOf) (fed : List ℕ) → StandsAt (Place.Size count number) sum framing fed
-        → StandsAt result sum framing (fed ++ byte ∷ []) }
+    ensures { (sum : ℕ) (framing : FramingOf) (fed : List ℕ) → RepresentsAt (BodyPlace.Size count number) sum framing fed
+        → RepresentsAt result sum framing (fed ++ byte ∷ []) }
 {
     if count == 0 {
-        return Place::Refused(BAD_REQUEST);
+        return BodyPlace::Refused(BAD_REQUEST);
     }
     if byte == CARRIAGE_RETURN {
-        return Place::LineFeed(number);
+        return BodyPlace::LineFeed(number);
     }
     if is_extension_start(byte) {
-        return Place::Extension(CHUNK_LINE_LIMIT - 1 - count as usize, number);
+        return BodyPlace::Extension(CHUNK_LINE_LIMIT - 1 - count as usize, number);
     }
-    Place::Refused(BAD_REQUEST)
+    BodyPlace::Refused(BAD_REQUEST)
 }
 
 /// A semicolon or white space begins what is no part of a chunk's size.
@@ -152,60 +152,60 @@ fn is_extension_text(byte: u8) -> bool
 }
 
 /// In an extension comes one more byte of it, or CR.
-pub(crate) fn behind_extension(room: usize, number: u64, byte: u8) -> Place
-    ensures { (sum : ℕ) (framing : FramingOf) (fed : List ℕ) → StandsAt (Place.Extension room number) sum framing fed
-        → StandsAt result sum framing (fed ++ byte ∷ []) }
+pub(crate) fn behind_extension(room: usize, number: u64, byte: u8) -> BodyPlace
+    ensures { (sum : ℕ) (framing : FramingOf) (fed : List ℕ) → RepresentsAt (BodyPlace.Extension room number) sum framing fed
+        → RepresentsAt result sum framing (fed ++ byte ∷ []) }
 {
     // The LF would stand beyond the limit of the line.
     if room <= 1 {
-        return Place::Refused(BAD_REQUEST);
+        return BodyPlace::Refused(BAD_REQUEST);
     }
     if byte == CARRIAGE_RETURN {
-        return Place::LineFeed(number);
+        return BodyPlace::LineFeed(number);
     }
     if is_extension_text(byte) {
-        return Place::Extension(room - 1, number);
+        return BodyPlace::Extension(room - 1, number);
     }
-    Place::Refused(BAD_REQUEST)
+    BodyPlace::Refused(BAD_REQUEST)
 }
 
 /// Behind the content of a chunk comes CR.
-pub(crate) fn behind_chunk(byte: u8) -> Place
-    ensures { (sum : ℕ) (framing : FramingOf) (fed : List ℕ) → StandsAt Place.ChunkReturn sum framing fed
-        → StandsAt result sum framing (fed ++ byte ∷ []) }
+pub(crate) fn behind_chunk(byte: u8) -> BodyPlace
+    ensures { (sum : ℕ) (framing : FramingOf) (fed : List ℕ) → RepresentsAt BodyPlace.ChunkReturn sum framing fed
+        → RepresentsAt result sum framing (fed ++ byte ∷ []) }
 {
     if byte == CARRIAGE_RETURN {
-        Place::ChunkLineFeed
+        BodyPlace::ChunkLineFeed
     } else {
-        Place::Refused(BAD_REQUEST)
+        BodyPlace::Refused(BAD_REQUEST)
     }
 }
 
 /// Behind the CR of a chunk comes LF, and then the next chunk line.
-pub(crate) fn behind_chunk_return(byte: u8) -> Place
-    ensures { (sum : ℕ) (framing : FramingOf) (fed : List ℕ) → StandsAt Place.ChunkLineFeed sum framing fed
-        → StandsAt result sum framing (fed ++ byte ∷ []) }
+pub(crate) fn behind_chunk_return(byte: u8) -> BodyPlace
+    ensures { (sum : ℕ) (framing : FramingOf) (fed : List ℕ) → RepresentsAt BodyPlace.ChunkLineFeed sum framing fed
+        → RepresentsAt result sum framing (fed ++ byte ∷ []) }
 {
     if byte == LINE_FEED {
-        Place::Size(0, 0)
+        BodyPlace::Size(0, 0)
     } else {
-        Place::Refused(BAD_REQUEST)
+        BodyPlace::Refused(BAD_REQUEST)
     }
 }
 
 /// In the trailer section comes one more byte.
-pub(crate) fn behind_trailer_byte(room: usize, line: TrailerLine, byte: u8) -> Place
-    ensures { (sum : ℕ) (framing : FramingOf) (fed : List ℕ) → StandsAt (Place.Trailers room line) sum framing fed
-        → StandsAt result sum framing (fed ++ byte ∷ []) }
+pub(crate) fn behind_trailer_byte(room: usize, line: TrailerLine, byte: u8) -> BodyPlace
+    ensures { (sum : ℕ) (framing : FramingOf) (fed : List ℕ) → RepresentsAt (BodyPlace.Trailers room line) sum framing fed
+        → RepresentsAt result sum framing (fed ++ byte ∷ []) }
 {
     match trailer_step(line, byte) {
-        TrailerStep::Ends => Place::Whole,
-        TrailerStep::Breaks => Place::Refused(BAD_REQUEST),
+        TrailerStep::Ends => BodyPlace::Whole,
+        TrailerStep::Breaks => BodyPlace::Refused(BAD_REQUEST),
         TrailerStep::Goes(line) => {
             if room <= 1 {
-                return Place::Refused(FIELDS_TOO_LARGE);
+                return BodyPlace::Refused(HEADER_FIELDS_TOO_LARGE);
             }
-            Place::Trailers(room - 1, line)
+            BodyPlace::Trailers(room - 1, line)
         }
     }
 }

@@ -3,15 +3,15 @@
 // trailers are looked at, byte by byte, because a piece may end anywhere in them.
 ghost use Rattle.std.specs.Prelude.{◌≡◌, ◌≢◌, ◌↔◌, ◌+◌, ◌≤◌, ◌<◌, ◌++◌, Bool, IsTrue, List, ℕ, None, [], ◌∷◌, length, take};
 ghost use Rattle.warp_request.specs.declared.verdict.Framing.{Framing as FramingOf};
-ghost use Rattle.warp_request.specs.Body.{body_of};
-ghost use Rattle.warp_request.specs.BodyReader.{Skips, StandsAt, StandsFor, state_of, state_verdict};
+ghost use Rattle.warp_request.specs.Body.{body_of, more};
+ghost use Rattle.warp_request.specs.BodyReader.{Skips, RepresentsAt, Represents, state_of, state_verdict};
 
 use crate::body_place::{
-    LINE_FEED, Place, TRAILER_LIMIT, TrailerLine, behind_chunk, behind_chunk_return, behind_digits,
+    LINE_FEED, BodyPlace, TRAILER_LIMIT, TrailerLine, behind_chunk, behind_chunk_return, behind_digits,
     behind_extension, behind_trailer_byte, chunk_place, content_place,
 };
 use crate::limits::BODY_LIMIT;
-use crate::status::{BAD_REQUEST, CONTENT_TOO_LARGE};
+use warp_response::status::{BAD_REQUEST, CONTENT_TOO_LARGE};
 use crate::verdict::Framing;
 
 /// Where a reader stands with its body.
@@ -44,19 +44,19 @@ struct Skipped {
 /// Reads a body piece by piece (RFC 9112, section 6.3 and section 7.1), and keeps none of it.
 #[derive(Drop)]
 pub struct BodyReader {
-    place: Place,
+    place: BodyPlace,
     sum: u64,
 }
 
 impl BodyReader {
     /// A reader of the body that a head with this framing promises.
     pub fn new(framing: Framing) -> BodyReader
-        ensures { StandsFor result framing [] }
+        ensures { Represents result framing [] }
     {
         let place = match framing {
-            Framing::None | Framing::Length(0) => Place::Whole,
-            Framing::Length(length) => Place::Content(length - 1),
-            Framing::Chunked => Place::Size(0, 0),
+            Framing::None | Framing::Length(0) => BodyPlace::Whole,
+            Framing::Length(length) => BodyPlace::Content(length - 1),
+            Framing::Chunked => BodyPlace::Size(0, 0),
         };
         BodyReader { place, sum: 0 }
     }
@@ -66,10 +66,13 @@ impl BodyReader {
     pub fn feed(&mut self, piece: &[u8]) -> Fed
         ensures within { result.used ≤ length piece.now }
         // The state is what the definition says of all bytes laid end to end, of those used before and the piece.
-        ensures state { (framing : FramingOf) (fed : List ℕ) → StandsFor self.old framing fed
+        ensures state { (framing : FramingOf) (fed : List ℕ) → Represents self.old framing fed
             → body_of framing (fed ++ piece.now) ≡ state_verdict result.state (length fed + result.used) }
-        ensures stands { (framing : FramingOf) (fed : List ℕ) → StandsFor self.old framing fed
-            → StandsFor self.new framing (fed ++ take result.used piece.now) }
+        ensures stands { (framing : FramingOf) (fed : List ℕ) → Represents self.old framing fed
+            → Represents self.new framing (fed ++ take result.used piece.now) }
+        // No shorter front of them settles the body: it is whole or refused with the last byte that was used.
+        ensures first { (framing : FramingOf) (fed : List ℕ) → Represents self.old framing fed → (n : ℕ) → n < result.used
+            → body_of framing (fed ++ take n piece.now) ≡ more }
         ensures shows { result.state ≡ state_of self.new }
         ensures all { state_of self.new ≡ BodyState.More → result.used ≡ length piece.now }
         ensures ended { state_of self.old ≢ BodyState.More → (result.used ≡ 0) × (self.new ≡ self.old) }
@@ -88,8 +91,8 @@ impl BodyReader {
         ensures { result ≡ state_of self.now }
     {
         match self.place {
-            Place::Whole => BodyState::Whole,
-            Place::Refused(code) => BodyState::Refuse(code),
+            BodyPlace::Whole => BodyState::Whole,
+            BodyPlace::Refused(code) => BodyState::Refuse(code),
             _ => BodyState::More,
         }
     }
@@ -98,7 +101,7 @@ impl BodyReader {
     fn is_open(&self) -> bool
         ensures { IsTrue result ↔ (state_of self.now ≡ BodyState.More) }
     {
-        !matches!(self.place, Place::Whole | Place::Refused(_))
+        !matches!(self.place, BodyPlace::Whole | BodyPlace::Refused(_))
     }
 
     /// Uses the next byte, or as much content as is there.
@@ -107,33 +110,35 @@ impl BodyReader {
         requires open { state_of self.old ≡ BodyState.More }
         ensures some { 1 ≤ result }
         ensures within { result ≤ length bytes.now }
-        ensures stands { (framing : FramingOf) (fed : List ℕ) → StandsFor self.old framing fed
-            → StandsFor self.new framing (fed ++ take result bytes.now) }
+        ensures stands { (framing : FramingOf) (fed : List ℕ) → Represents self.old framing fed
+            → Represents self.new framing (fed ++ take result bytes.now) }
+        ensures first { (framing : FramingOf) (fed : List ℕ) → Represents self.old framing fed → (n : ℕ) → n < result
+            → body_of framing (fed ++ take n bytes.now) ≡ more }
     {
         let first = bytes[0];
         match self.place {
-            Place::Content(behind) => {
+            BodyPlace::Content(behind) => {
                 let skipped = skip(behind, bytes.len());
                 self.place = content_place(skipped.behind);
                 skipped.used
             }
-            Place::Chunk(behind) => {
+            BodyPlace::Chunk(behind) => {
                 let skipped = skip(behind, bytes.len());
                 self.place = chunk_place(skipped.behind);
                 skipped.used
             }
-            Place::LineFeed(size) => self.begin_chunk(size, first),
-            Place::Size(count, number) => self.go_to(behind_digits(count, number, first)),
-            Place::Extension(room, number) => self.go_to(behind_extension(room, number, first)),
-            Place::ChunkReturn => self.go_to(behind_chunk(first)),
-            Place::ChunkLineFeed => self.go_to(behind_chunk_return(first)),
-            Place::Trailers(room, line) => self.go_to(behind_trailer_byte(room, line, first)),
-            Place::Whole | Place::Refused(_) => unreachable!(),
+            BodyPlace::LineFeed(size) => self.begin_chunk(size, first),
+            BodyPlace::Size(count, number) => self.go_to(behind_digits(count, number, first)),
+            BodyPlace::Extension(room, number) => self.go_to(behind_extension(room, number, first)),
+            BodyPlace::ChunkReturn => self.go_to(behind_chunk(first)),
+            BodyPlace::ChunkLineFeed => self.go_to(behind_chunk_return(first)),
+            BodyPlace::Trailers(room, line) => self.go_to(behind_trailer_byte(room, line, first)),
+            BodyPlace::Whole | BodyPlace::Refused(_) => unreachable!(),
         }
     }
 
     /// One byte led to this place.
-    fn go_to(&mut self, place: Place) -> usize
+    fn go_to(&mut self, place: BodyPlace) -> usize
         ensures used { result ≡ 1 }
         ensures goes { self.new ≡ record self.old { place = place } }
     {
@@ -144,20 +149,20 @@ impl BodyReader {
     /// Behind the CR of a chunk line comes its LF, and then what the size of the chunk says.
     fn begin_chunk(&mut self, size: u64, byte: u8) -> usize
         ensures used { result ≡ 1 }
-        ensures stands { (framing : FramingOf) (fed : List ℕ) → StandsAt (Place.LineFeed size) self.old.sum framing fed
-            → StandsFor self.new framing (fed ++ byte ∷ []) }
+        ensures stands { (framing : FramingOf) (fed : List ℕ) → RepresentsAt (BodyPlace.LineFeed size) self.old.sum framing fed
+            → Represents self.new framing (fed ++ byte ∷ []) }
     {
         if byte != LINE_FEED {
-            return self.go_to(Place::Refused(BAD_REQUEST));
+            return self.go_to(BodyPlace::Refused(BAD_REQUEST));
         }
         let sum = self.sum.saturating_add(size);
         if sum > BODY_LIMIT {
-            return self.go_to(Place::Refused(CONTENT_TOO_LARGE));
+            return self.go_to(BodyPlace::Refused(CONTENT_TOO_LARGE));
         }
         self.sum = sum;
         match size.checked_sub(1) {
-            Some(behind) => self.go_to(Place::Chunk(behind)),
-            None => self.go_to(Place::Trailers(TRAILER_LIMIT, TrailerLine::Start)),
+            Some(behind) => self.go_to(BodyPlace::Chunk(behind)),
+            None => self.go_to(BodyPlace::Trailers(TRAILER_LIMIT, TrailerLine::Start)),
         }
     }
 }

@@ -6,7 +6,7 @@ ghost use Rattle.warp_request.specs.Shown.{shown, parts_shown, LiesIn};
 
 use crate::fields::NamedLines;
 use crate::limits::FIELD_LIMIT;
-use crate::status::{BAD_REQUEST, FIELDS_TOO_LARGE};
+use warp_response::status::{BAD_REQUEST, HEADER_FIELDS_TOO_LARGE};
 use crate::target::{is_target_form, is_visible};
 use crate::verdict::{HeadInfo, Next};
 use httparse::spans::{HeaderSpan, RequestSpans};
@@ -18,7 +18,7 @@ pub(crate) fn checked(bytes: &[u8], spans: &[HeaderSpan], head: RequestSpans) ->
     ensures within { LiesIn bytes.now result }
 {
     if head.headers > FIELD_LIMIT {
-        return Next::Refuse(FIELDS_TOO_LARGE);
+        return Next::Refuse(HEADER_FIELDS_TOO_LARGE);
     }
     let target = head.path.of(bytes);
     if !is_visible(target) {

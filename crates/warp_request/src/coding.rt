@@ -1,10 +1,9 @@
 // The Transfer-Encoding lines of a head: whether their list of codings ends in `chunked`, the only coding that is
 // taken (RFC 9112, sections 6.1 and 6.3).
-ghost use Rattle.std.specs.Prelude.{◌≡◌, ℕ, List, [], ◌∷◌, ◌++◌};
-ghost use Rattle.warp_request.specs.Fields.{values_of};
-ghost use Rattle.warp_request.specs.NamedLines.{coding_lines, coding_with, codings_with, opened};
+ghost use Rattle.std.specs.Prelude.{◌≡◌};
+ghost use Rattle.warp_request.specs.NamedLines.{coding_with, codings_with, opened};
 
-use crate::names::{CHUNKED, TRANSFER_ENCODING};
+use crate::names::CHUNKED;
 use crate::values::{is_same_word, trim};
 
 /// What the Transfer-Encoding lines say. Each list is read without its empty members.
@@ -24,19 +23,8 @@ pub(crate) enum CodingLines {
 }
 
 impl CodingLines {
-    /// With one more field.
-    pub(crate) fn with(self, name: &[u8], value: &[u8]) -> CodingLines
-        ensures { (fields : List (List ℕ × List ℕ)) → self ≡ coding_lines (values_of TRANSFER_ENCODING.now fields)
-            → result ≡ coding_lines (values_of TRANSFER_ENCODING.now (fields ++ (name.now, value.now) ∷ [])) }
-    {
-        if is_same_word(name, TRANSFER_ENCODING) {
-            self.with_value(value)
-        } else {
-            self
-        }
-    }
-
-    fn with_value(self, value: &[u8]) -> CodingLines
+    /// With one more line.
+    pub(crate) fn with_value(self, value: &[u8]) -> CodingLines
         ensures { result ≡ codings_with self value.now }
     {
         value

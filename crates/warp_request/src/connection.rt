@@ -1,10 +1,10 @@
 // The Connection lines of a head: whether the connection stays open (RFC 9112, section 9.3).
-ghost use Rattle.std.specs.Prelude.{◌≡◌, ℕ, List, [], ◌∷◌, ◌++◌};
-ghost use Rattle.warp_request.specs.Fields.{values_of, stays_open as stays_open_by};
+ghost use Rattle.std.specs.Prelude.{◌≡◌, ℕ, List};
+ghost use Rattle.warp_request.specs.Fields.{stays_open as stays_open_by};
 ghost use Rattle.warp_request.specs.NamedLines.{connection_lines, connection_with};
 
-use crate::names::{CLOSE, CONNECTION, KEEP_ALIVE};
-use crate::values::{has_word, is_same_word};
+use crate::names::{CLOSE, KEEP_ALIVE};
+use crate::values::has_word;
 
 /// Which of the two words are members of the Connection list.
 #[derive(Clone, Copy)]
@@ -14,19 +14,8 @@ pub(crate) struct ConnectionLines {
 }
 
 impl ConnectionLines {
-    /// With one more field.
-    pub(crate) fn with(self, name: &[u8], value: &[u8]) -> ConnectionLines
-        ensures { (fields : List (List ℕ × List ℕ)) → self ≡ connection_lines (values_of CONNECTION.now fields)
-            → result ≡ connection_lines (values_of CONNECTION.now (fields ++ (name.now, value.now) ∷ [])) }
-    {
-        if is_same_word(name, CONNECTION) {
-            self.with_value(value)
-        } else {
-            self
-        }
-    }
-
-    fn with_value(self, value: &[u8]) -> ConnectionLines
+    /// With one more line.
+    pub(crate) fn with_value(self, value: &[u8]) -> ConnectionLines
         ensures { result ≡ connection_with self value.now }
     {
         ConnectionLines {

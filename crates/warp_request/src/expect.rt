@@ -1,12 +1,11 @@
 // The Expect lines of a head: whether the client waits for an interim answer before it sends its content
 // (RFC 9110, section 10.1.1).
-ghost use Rattle.std.specs.Prelude.{◌≡◌, ℕ, List, [], ◌∷◌, ◌++◌};
+ghost use Rattle.std.specs.Prelude.{◌≡◌, ℕ, List};
 ghost use Rattle.warp_request.specs.declared.verdict.Framing.{Framing as FramingOf};
 ghost use Rattle.warp_request.specs.Content.{has_content as content_may_come, is_expect_fault, waits_for_interim};
-ghost use Rattle.warp_request.specs.Fields.{values_of};
 ghost use Rattle.warp_request.specs.NamedLines.{expect_lines, expect_with, expects_other, expects_some};
 
-use crate::names::{CONTINUE, EXPECT};
+use crate::names::CONTINUE;
 use crate::values::is_same_word;
 use crate::verdict::Framing;
 
@@ -21,19 +20,8 @@ pub(crate) enum ExpectLines {
 }
 
 impl ExpectLines {
-    /// With one more field.
-    pub(crate) fn with(self, name: &[u8], value: &[u8]) -> ExpectLines
-        ensures { (fields : List (List ℕ × List ℕ)) → self ≡ expect_lines (values_of EXPECT.now fields)
-            → result ≡ expect_lines (values_of EXPECT.now (fields ++ (name.now, value.now) ∷ [])) }
-    {
-        if is_same_word(name, EXPECT) {
-            self.with_value(value)
-        } else {
-            self
-        }
-    }
-
-    fn with_value(self, value: &[u8]) -> ExpectLines
+    /// With one more line.
+    pub(crate) fn with_value(self, value: &[u8]) -> ExpectLines
         ensures { result ≡ expect_with self value.now }
     {
         match self {

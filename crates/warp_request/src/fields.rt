@@ -9,7 +9,8 @@ use crate::expect::ExpectLines;
 use crate::framing::framing;
 use crate::host::HostLines;
 use crate::length::LengthLines;
-use crate::status::{BAD_REQUEST, EXPECTATION_FAILED};
+use crate::names::{KnownName, known_name};
+use warp_response::status::{BAD_REQUEST, EXPECTATION_FAILED};
 use crate::verdict::Framing;
 use httparse::spans::HeaderSpan;
 
@@ -53,12 +54,28 @@ impl<'a> NamedLines<'a> {
         ensures { (fields : List (List ℕ × List ℕ)) → lines_shown self.entry ≡ named_lines fields
             → lines_shown result ≡ named_lines (fields ++ (name.now, value.now) ∷ []) }
     {
-        NamedLines {
-            host: self.host.with(name, value),
-            connection: self.connection.with(name, value),
-            codings: self.codings.with(name, value),
-            lengths: self.lengths.with(name, value),
-            expect: self.expect.with(name, value),
+        match known_name(name) {
+            KnownName::Host => NamedLines {
+                host: self.host.with_value(value),
+                ..self
+            },
+            KnownName::Connection => NamedLines {
+                connection: self.connection.with_value(value),
+                ..self
+            },
+            KnownName::TransferEncoding => NamedLines {
+                codings: self.codings.with_value(value),
+                ..self
+            },
+            KnownName::ContentLength => NamedLines {
+                lengths: self.lengths.with_value(value),
+                ..self
+            },
+            KnownName::Expect => NamedLines {
+                expect: self.expect.with_value(value),
+                ..self
+            },
+            KnownName::Other => self,
         }
     }
 

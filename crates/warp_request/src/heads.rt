@@ -2,14 +2,14 @@
 ghost use Rattle.std.specs.Prelude.{◌≡◌, ◌≤◌, ◌<◌, length};
 ghost use Rattle.warp_request.specs.Laws.{TellsOf, StaysSettled};
 ghost use Rattle.warp_request.specs.Next.{next_of, window_of, waits};
-ghost use Rattle.warp_request.specs.Parsed.{Says};
+ghost use Rattle.warp_request.specs.Parsed.{ParserAnswered};
 ghost use Rattle.warp_request.specs.Shown.{shown, LiesIn};
 
 use crate::checks::checked;
 use crate::limits::{FIELD_ROOM, HEAD_LIMIT};
 use crate::lines::has_line;
 use crate::scratch::Scratch;
-use crate::status::{BAD_REQUEST, FIELDS_TOO_LARGE, URI_TOO_LONG};
+use warp_response::status::{BAD_REQUEST, HEADER_FIELDS_TOO_LARGE, URI_TOO_LONG};
 use crate::verdict::Next;
 use httparse::Status;
 use httparse::spans::{HeaderSpan, parse_request};
@@ -41,7 +41,7 @@ pub fn next(bytes: &[u8], scratch: &mut Scratch) -> Next
     }
     match read_head(window, &mut scratch.fields) {
         Parsed::Whole(verdict) => verdict,
-        Parsed::Cut => more_or(FIELDS_TOO_LARGE, bytes),
+        Parsed::Cut => more_or(HEADER_FIELDS_TOO_LARGE, bytes),
         Parsed::Wrong => Next::Refuse(BAD_REQUEST),
     }
 }
@@ -74,7 +74,7 @@ fn more_or(code: u16, bytes: &[u8]) -> Next
 fn read_head(window: &[u8], fields: &mut [HeaderSpan]) -> Parsed
     requires room { length fields.old ≡ FIELD_ROOM }
     requires fits { length window.now ≤ HEAD_LIMIT }
-    ensures { Says window.now result }
+    ensures { ParserAnswered window.now result }
 {
     match parse_request(window, fields) {
         Ok(Status::Complete(head)) => Parsed::Whole(checked(window, fields, head)),

@@ -1,10 +1,9 @@
 // The Host lines of a head: under HTTP/1.1 exactly one has to be there (RFC 9112, section 3.2).
-ghost use Rattle.std.specs.Prelude.{◌≡◌, ℕ, List, [], ◌∷◌, ◌++◌};
-ghost use Rattle.warp_request.specs.Fields.{values_of, is_host_fault};
+ghost use Rattle.std.specs.Prelude.{◌≡◌, ℕ, List};
+ghost use Rattle.warp_request.specs.Fields.{is_host_fault};
 ghost use Rattle.warp_request.specs.NamedLines.{host_lines, host_with};
 
-use crate::names::HOST;
-use crate::values::{is_host, is_same_word};
+use crate::values::is_host;
 
 /// What the Host lines say.
 #[derive(Clone, Copy)]
@@ -17,19 +16,8 @@ pub(crate) enum HostLines {
 }
 
 impl HostLines {
-    /// With one more field.
-    pub(crate) fn with(self, name: &[u8], value: &[u8]) -> HostLines
-        ensures { (fields : List (List ℕ × List ℕ)) → self ≡ host_lines (values_of HOST.now fields)
-            → result ≡ host_lines (values_of HOST.now (fields ++ (name.now, value.now) ∷ [])) }
-    {
-        if is_same_word(name, HOST) {
-            self.with_value(value)
-        } else {
-            self
-        }
-    }
-
-    fn with_value(self, value: &[u8]) -> HostLines
+    /// With one more line.
+    pub(crate) fn with_value(self, value: &[u8]) -> HostLines
         ensures { result ≡ host_with self value.now }
     {
         match self {

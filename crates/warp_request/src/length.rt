@@ -1,13 +1,11 @@
 // The Content-Length lines of a head: one number, or several times the same (RFC 9112, section 6.3). Numbers are
 // told apart by their digits behind leading zeros, so that a number of any length is judged.
-ghost use Rattle.std.specs.Prelude.{◌≡◌, ◌-◌, ◌^◌, ℕ, List, [], ◌∷◌, ◌++◌, min};
+ghost use Rattle.std.specs.Prelude.{◌≡◌, ◌-◌, ◌^◌, min};
 ghost use Rattle.std.specs.List.{list_all};
 ghost use Rattle.warp_request.specs.Content.{decimal_of, is_digit, is_numeral as is_numeral_text};
-ghost use Rattle.warp_request.specs.Fields.{values_of};
-ghost use Rattle.warp_request.specs.NamedLines.{length_lines, length_with, lengths_shown, lengths_with, skip_zeros};
+ghost use Rattle.warp_request.specs.NamedLines.{length_with, lengths_shown, lengths_with, skip_zeros};
 
-use crate::names::CONTENT_LENGTH;
-use crate::values::{is_same_word, trim};
+use crate::values::trim;
 
 /// What the Content-Length lines say.
 #[derive(Clone, Copy)]
@@ -20,19 +18,8 @@ pub(crate) enum LengthLines<'a> {
 }
 
 impl<'a> LengthLines<'a> {
-    /// With one more field.
-    pub(crate) fn with(self, name: &[u8], value: &'a [u8]) -> LengthLines<'a>
-        ensures { (fields : List (List ℕ × List ℕ)) → lengths_shown self.entry ≡ length_lines (values_of CONTENT_LENGTH.now fields)
-            → lengths_shown result ≡ length_lines (values_of CONTENT_LENGTH.now (fields ++ (name.now, value.now) ∷ [])) }
-    {
-        if is_same_word(name, CONTENT_LENGTH) {
-            self.with_value(value)
-        } else {
-            self
-        }
-    }
-
-    fn with_value(self, value: &'a [u8]) -> LengthLines<'a>
+    /// With one more line.
+    pub(crate) fn with_value(self, value: &'a [u8]) -> LengthLines<'a>
         ensures { lengths_shown result ≡ lengths_with (lengths_shown self.entry) value.now }
     {
         value

@@ -22,7 +22,6 @@ mod limits;
 mod lines;
 mod names;
 mod scratch;
-pub mod status;
 mod target;
 #[cfg(test)]
 mod tests;
@@ -32,7 +31,10 @@ mod verdict;
 pub use body_place::{CHUNK_DIGITS, CHUNK_LINE_LIMIT, TRAILER_LIMIT};
 pub use body_reader::{BodyReader, BodyState, Fed};
 pub use heads::next;
-pub use laws::{a_settled_body_stays, a_settled_head_stays, lists_join_their_lines};
+pub use laws::{
+    a_refusal_can_be_sent, a_settled_body_stays, a_settled_head_stays, limits_are_defined,
+    lists_join_their_lines,
+};
 pub use limits::{BODY_LIMIT, FIELD_LIMIT, FIELD_ROOM, HEAD_LIMIT};
 pub use lines::is_blank;
 pub use scratch::Scratch;

@@ -9,7 +9,7 @@ use Rattle.httpdate.specs.Date.{unix_secs, date_text}
 use Rattle.httpdate.proofs.CalendarLemmas.{days_of_years_closed, days_of_months_all}
 use Rattle.httpdate.proofs.ValidLemmas.{is_valid_complete}
 use Rattle.httpdate.proofs.Theorems.{date_text_is}
-use Rattle.warp_response.specs.Moment.{year_of, month_of, parts_of, last_moment, date_of}
+use Rattle.warp_response.specs.Moment.{year_of, month_of, civil_of, first_undated, date_of}
 
 year_long : (y : ℕ) → 365 ≤ days_in_year y
 year_long y = go (is_leap_year y)
@@ -95,9 +95,9 @@ early_year k d fits early = go (cases_lt k 8030)
         let e : days_of_years (8030 + (k - 8030)) ≡ days_of_years k = ap days_of_years (omega arith) in
         absurd (omega (arith, years_rise 8030 (k - 8030), last_year, e))
 
-pub parts_are : (moment : ℕ) → moment < last_moment → IsValid (parts_of moment) × (parts_secs (parts_of moment) ≡ moment)
-unfolding parts_of
-parts_are moment early =
+pub civil_is : (moment : ℕ) → moment < first_undated → IsValid (civil_of moment) × (parts_secs (civil_of moment) ≡ moment)
+unfolding civil_of
+civil_is moment early =
     let days = moment / 86400 in
     let year = year_of days 0 days in
     let found : Counts days 0 days year = year_counts days 0 days (omega arith) in
@@ -117,7 +117,7 @@ parts_are moment early =
     )
 
 -- the date that httpdate shows of a moment
-pub date_is : (d : HttpDate) (moment : ℕ) → moment < last_moment → unix_secs d ≡ moment → date_text d ≡ date_of moment
+pub date_is : (d : HttpDate) (moment : ℕ) → moment < first_undated → unix_secs d ≡ moment → date_text d ≡ date_of moment
 date_is d moment early is =
-    let parts = parts_are moment early in
-    date_text_is d (parts_of moment) (is_valid_complete (parts_of moment) parts.0) (is ∙ sym parts.1)
+    let parts = civil_is moment early in
+    date_text_is d (civil_of moment) (is_valid_complete (civil_of moment) parts.0) (is ∙ sym parts.1)

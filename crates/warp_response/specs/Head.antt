@@ -1,10 +1,11 @@
--- The bytes of a head (RFC 9112, sections 2 to 4).
-use Rattle.std.specs.Prelude.{ℕ, List, [], ◌∷◌, ◌++◌, Bool, Option, Some, None, codes, decimal, nat_lt, if◌then◌else◌, ◌==◌}
+-- To be believed: the bytes of a head (RFC 9112, sections 2 to 4).
+use Rattle.std.specs.Prelude.{ℕ, List, [], ◌++◌, Bool, Option, Some, None, codes, decimal, nat_lt, if◌then◌else◌}
 use Rattle.warp_response.specs.declared.response.Kind.{Kind}
 use Rattle.warp_response.specs.declared.response.Kind.TheVariants.{Html, Plain, Css, JavaScript, Json, Xml, Svg, Png, Jpeg, Gif, OctetStream}
 use Rattle.warp_response.specs.declared.response.LastWord.{LastWord}
 use Rattle.warp_response.specs.declared.response.LastWord.TheVariants.{Nothing, Close, KeepAlive}
-use Rattle.warp_response.specs.Moment.{date_of, last_moment}
+use Rattle.warp_response.specs.Moment.{date_of, first_undated}
+use Rattle.warp_response.specs.Statuses.{phrase_of}
 
 -- what the head of an answer says: its status, the length of its content, the kind of its file, the bytes of its Location, and whether it lists the methods that are served
 pub record Head : Type 0 where
@@ -13,30 +14,6 @@ pub record Head : Type 0 where
   pub kind : Option Kind
   pub place : Option (List ℕ)
   pub allow : Bool
-
--- the statuses that are sent, each with its reason phrase
-abbrev pub phrases : List (ℕ × List ℕ)
-phrases =
-    (200, codes "OK")
-    ∷ (301, codes "Moved Permanently")
-    ∷ (400, codes "Bad Request")
-    ∷ (404, codes "Not Found")
-    ∷ (405, codes "Method Not Allowed")
-    ∷ (413, codes "Content Too Large")
-    ∷ (414, codes "URI Too Long")
-    ∷ (417, codes "Expectation Failed")
-    ∷ (431, codes "Request Header Fields Too Large")
-    ∷ (501, codes "Not Implemented")
-    ∷ []
-
--- the phrase that a table has for a status, and nothing where it has none
-abbrev pub phrase_in : List (ℕ × List ℕ) → ℕ → List ℕ
-phrase_in [] status = []
-phrase_in (row ∷ rows) status = if status == row.0 then row.1 else phrase_in rows status
-
--- the reason phrase of a status
-abbrev pub phrase_of : ℕ → List ℕ
-phrase_of status = phrase_in phrases status
 
 -- a line of a head
 abbrev pub field_line : List ℕ → List ℕ → List ℕ
@@ -48,7 +25,7 @@ status_line status = codes "HTTP/1.1 " ++ decimal status ++ codes " " ++ phrase_
 
 -- Date, which a moment from the year 10000 on hasn't
 unfoldable pub date_line : ℕ → List ℕ
-date_line moment = if nat_lt moment last_moment then field_line (codes "Date") (date_of moment) else []
+date_line moment = if nat_lt moment first_undated then field_line (codes "Date") (date_of moment) else []
 
 -- the media type of a kind of file
 abbrev pub kind_text : Kind → List ℕ
@@ -91,6 +68,14 @@ unfoldable pub last_line : LastWord → List ℕ
 last_line Nothing = []
 last_line Close = field_line (codes "Connection") (codes "close")
 last_line KeepAlive = field_line (codes "Connection") (codes "keep-alive")
+
+-- no head has more bytes: Location repeats at most two spans of a target of 8,192 bytes
+abbrev pub longest_head : ℕ
+longest_head = 16896
+
+-- no head without Location has more bytes
+abbrev pub longest_head_without_place : ℕ
+longest_head_without_place = 512
 
 -- the head, with the empty line at its end
 unfoldable pub head_text : Head → ℕ → LastWord → List ℕ

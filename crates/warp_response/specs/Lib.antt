@@ -1,4 +1,5 @@
 pub mod Moment
+pub mod Statuses
 pub mod Head
 pub mod Reply
 pub mod Text

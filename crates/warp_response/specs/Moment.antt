@@ -1,10 +1,10 @@
--- The date of a moment, counted off year by year and month by month.
+-- To be believed: the date of a moment, counted off year by year and month by month. A law ties it to the calendar.
 use Rattle.std.specs.Prelude.{ℕ, zero, suc, ◌+◌, ◌-◌, ◌/◌, ◌%◌, List, nat_lt, if◌then◌else◌}
 use Rattle.httpdate.specs.declared.parts.Parts.{Parts}
 use Rattle.httpdate.specs.Calendar.{days_in_year, days_in_month, weekday}
 use Rattle.httpdate.specs.Text.{imf_fixdate}
 
--- How many years have passed since 1970, and how many days since. The first argument bounds the years that are tried.
+-- how many years have passed since 1970, and how many days since; the first argument bounds the years that are tried
 unfoldable pub year_of : ℕ → ℕ → ℕ → ℕ × ℕ
 year_of zero k d = (k, d)
 year_of (suc n) k d = if nat_lt d (days_in_year (1970 + k)) then (k, d) else year_of n (k + 1) (d - days_in_year (1970 + k))
@@ -14,8 +14,9 @@ unfoldable pub month_of : ℕ → ℕ → ℕ → ℕ → ℕ × ℕ
 month_of zero y m d = (m, d)
 month_of (suc n) y m d = if nat_lt d (days_in_month y (m + 1)) then (m, d) else month_of n y (m + 1) (d - days_in_month y (m + 1))
 
-unfoldable pub parts_of : ℕ → Parts
-parts_of moment =
+-- the year, month, day, hour, minute, second and weekday of a moment
+unfoldable pub civil_of : ℕ → Parts
+civil_of moment =
     let days = moment / 86400 in
     let second = moment % 86400 in
     let year = year_of days 0 days in
@@ -30,10 +31,10 @@ parts_of moment =
       wday = weekday days;
     }
 
--- the first moment of the year 10000
-abbrev pub last_moment : ℕ
-last_moment = 253402300800
+-- the first moment that has no date: the beginning of the year 10000
+abbrev pub first_undated : ℕ
+first_undated = 253402300800
 
 -- IMF-fixdate of a moment before it
 abbrev pub date_of : ℕ → List ℕ
-date_of moment = imf_fixdate (parts_of moment)
+date_of moment = imf_fixdate (civil_of moment)

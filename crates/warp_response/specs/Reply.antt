@@ -1,13 +1,13 @@
--- What an answer is, whole, and which responses stand for it.
-use Rattle.std.specs.Prelude.{◌≡◌, ℕ, ◌≤◌, ◌==◌, ◌↔◌, List, [], ◌++◌, length, Bool, true, false, IsTrue, IsSome, Option, Some, None, option_map, codes, slice_range}
-use Rattle.std.specs.List.{list_any}
+-- To be believed: what an answer is, whole, and which responses stand for it.
+use Rattle.std.specs.Prelude.{◌≡◌, ℕ, ◌≤◌, ◌↔◌, List, [], ◌++◌, length, Bool, true, false, IsTrue, IsSome, Option, Some, None, option_map, codes, slice_range}
 use Rattle.std.specs.Option.{ForSome}
 use Rattle.warp_response.specs.declared.response.Kind.{Kind}
 use Rattle.warp_response.specs.declared.response.Content.{Content}
 use Rattle.warp_response.specs.declared.response.Content.TheVariants as kept
 use Rattle.warp_response.specs.declared.response.Place.{Place}
 use Rattle.warp_response.specs.declared.response.Response.{Response}
-use Rattle.warp_response.specs.Head.{Head, phrases}
+use Rattle.warp_response.specs.Head.{Head}
+use Rattle.warp_response.specs.Statuses.{HasPhrase}
 
 -- the content of a reply: none, one without bytes, or a file's bytes and whether they are sent
 pub data ReplyContent : Type 0 where
@@ -84,10 +84,6 @@ pub record IsResponseFor (target : List ℕ) (response : Response) (reply : Repl
   pub kind : response.kind ≡ reply.kind
   pub place : option_map (location target) response.place ≡ reply.place
   pub allow : response.allow ≡ reply.allow
-
--- this status has a reason phrase
-unfoldable pub HasPhrase : ℕ → Type 0
-HasPhrase status = IsTrue (list_any (λ row. status == row.0) phrases)
 
 -- a content is a file
 abbrev pub is_file : Content → Bool

@@ -1,4 +1,4 @@
--- The bytes of whole answers.
+-- To be believed: the bytes of whole answers.
 use Rattle.std.specs.Prelude.{ℕ, List, ◌++◌, codes}
 use Rattle.warp_response.specs.declared.response.LastWord.{LastWord}
 use Rattle.warp_response.specs.declared.response.LastWord.TheVariants.{Close}

@@ -1,52 +1,35 @@
 // The heads of answers.
-ghost use Rattle.std.specs.Prelude.{◌≡◌, ◌≤◌, ◌<◌, ◌+◌, ◌++◌, ℕ, length, decimal};
-ghost use Rattle.warp_response.specs.Head.{status_line, phrase_of, head_text};
+ghost use Rattle.std.specs.Prelude.{◌≡◌, ◌≤◌, ◌<◌, ◌+◌, ◌++◌, ℕ, None, length};
+ghost use Rattle.warp_response.specs.Head.{status_line, head_text, longest_head, longest_head_without_place};
 ghost use Rattle.warp_response.specs.Reply.{Reply, IsSendable, IsResponseFor, content_length, head_shown, head_of};
+ghost use Rattle.warp_response.specs.Statuses.{HasPhrase};
 
-use crate::fields::{
-    LINE_END, add_allow, add_date, add_kind, add_last_word, add_length, add_server,
-};
-use crate::head_buf::{HeadBuf, ROOM};
+use crate::fields::{LINE_END, add_allow, add_kind, add_last_word, add_length, add_server};
+use crate::head_buf::{HEAD_BYTES, HeadBuf};
 use crate::location::add_place;
 use crate::response::{Content, LastWord, Response};
 use crate::status;
-use itoa::Buffer;
 
-const VERSION: &[u8] = b"HTTP/1.1 ";
-
-/// The reason phrase of a status, and nothing for one that isn't sent.
-fn phrase(status: u16) -> &'static [u8]
-    ensures is { result.now ≡ phrase_of status }
-    ensures short { length result.now ≤ 31 }
+/// The status line of an answer that is sent (RFC 9112, section 4).
+#[tactic(auto, unfolding(crate::specs::Head::status_line, crate::specs::Statuses::HasPhrase))]
+fn status_text(status: u16) -> &'static [u8]
+    requires { HasPhrase status }
+    ensures is { result.now ≡ status_line status }
+    ensures short { length result.now ≤ 63 }
 {
     match status {
-        status::OK => b"OK",
-        status::MOVED_PERMANENTLY => b"Moved Permanently",
-        status::BAD_REQUEST => b"Bad Request",
-        status::NOT_FOUND => b"Not Found",
-        status::METHOD_NOT_ALLOWED => b"Method Not Allowed",
-        status::CONTENT_TOO_LARGE => b"Content Too Large",
-        status::URI_TOO_LONG => b"URI Too Long",
-        status::EXPECTATION_FAILED => b"Expectation Failed",
-        status::HEADER_FIELDS_TOO_LARGE => b"Request Header Fields Too Large",
-        status::NOT_IMPLEMENTED => b"Not Implemented",
-        _ => b"",
+        status::OK => b"HTTP/1.1 200 OK\r\n",
+        status::MOVED_PERMANENTLY => b"HTTP/1.1 301 Moved Permanently\r\n",
+        status::BAD_REQUEST => b"HTTP/1.1 400 Bad Request\r\n",
+        status::NOT_FOUND => b"HTTP/1.1 404 Not Found\r\n",
+        status::METHOD_NOT_ALLOWED => b"HTTP/1.1 405 Method Not Allowed\r\n",
+        status::CONTENT_TOO_LARGE => b"HTTP/1.1 413 Content Too Large\r\n",
+        status::URI_TOO_LONG => b"HTTP/1.1 414 URI Too Long\r\n",
+        status::EXPECTATION_FAILED => b"HTTP/1.1 417 Expectation Failed\r\n",
+        status::HEADER_FIELDS_TOO_LARGE => b"HTTP/1.1 431 Request Header Fields Too Large\r\n",
+        status::NOT_IMPLEMENTED => b"HTTP/1.1 501 Not Implemented\r\n",
+        _ => unreachable!(),
     }
-}
-
-/// Writes the status line (RFC 9112, section 4).
-#[tactic(auto, unfolding(crate::specs::Head::status_line))]
-fn add_status_line(status: u16, out: &mut HeadBuf)
-    requires { length out.old + 63 ≤ ROOM }
-    ensures is { out.new ≡ out.old ++ status_line status }
-    ensures long { length out.new ≤ length out.old + 63 }
-{
-    let mut digits = Buffer::new();
-    out.add(VERSION);
-    out.add(digits.format(u64::from(status)).as_bytes());
-    out.add(b" ");
-    out.add(phrase(status));
-    out.add(LINE_END);
 }
 
 /// Bytes that Content-Length tells.
@@ -71,11 +54,13 @@ pub fn head_bytes(
 )
     requires { IsSendable target.now response.now }
     ensures head { out.new ≡ head_text (head_shown target.now response.now) moment last }
+    ensures long { length out.new ≤ longest_head }
+    ensures short { response.now.place ≡ None → length out.new ≤ longest_head_without_place }
     ensures reply { (reply : Reply) → IsResponseFor target.now response.now reply → out.new ≡ head_text (head_of reply) moment last }
 {
     out.clear();
-    add_status_line(response.status, out);
-    add_date(moment, out);
+    out.add(status_text(response.status));
+    out.add_date(moment);
     add_server(out);
     add_kind(response.kind, out);
     add_length(told_length(response.content), out);

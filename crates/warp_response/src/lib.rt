@@ -10,6 +10,7 @@ mod response;
 pub mod status;
 
 // The bytes of its head.
+mod date_line;
 mod fields;
 mod head_buf;
 mod heads;
@@ -17,10 +18,14 @@ mod location;
 
 // The answers that no application makes.
 mod refusals;
+
+// What holds of the definitions.
+mod laws;
 #[cfg(test)]
 mod tests;
 
 pub use head_buf::HeadBuf;
 pub use heads::head_bytes;
+pub use laws::{a_date_is_of_its_moment, each_status_has_its_number};
 pub use refusals::{interim, refusal};
 pub use response::{Content, Kind, LastWord, Place, Response};

@@ -1,6 +1,7 @@
 // The answers that no application makes: refusals and the interim answer.
 ghost use Rattle.std.specs.Prelude.{◌≡◌, ◌≤◌, ℕ, List, length, None, Some, true, false};
-ghost use Rattle.warp_response.specs.Reply.{Reply, refusal_reply, IsResponseFor, IsSendable, HasPhrase};
+ghost use Rattle.warp_response.specs.Reply.{Reply, refusal_reply, IsResponseFor, IsSendable};
+ghost use Rattle.warp_response.specs.Statuses.{HasPhrase};
 ghost use Rattle.warp_response.specs.Text.{interim_text};
 
 use crate::response::{Content, Response};

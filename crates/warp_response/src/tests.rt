@@ -1,7 +1,8 @@
 // Worked heads and answers, each with its text and the number of its bytes.
 ghost use Rattle.std.specs.Prelude.{◌≡◌, ◌≤◌, IsTrue, length};
 ghost use Rattle.std.specs.Option.{ForSome};
-ghost use Rattle.warp_response.specs.Reply.{HasPhrase, IsSpanOf, IsPlaceOf, IsSendable, is_file};
+ghost use Rattle.warp_response.specs.Reply.{IsSpanOf, IsPlaceOf, IsSendable, is_file};
+ghost use Rattle.warp_response.specs.Statuses.{HasPhrase};
 
 use crate::response::{Content, Kind, LastWord, Place, Response};
 use crate::{HeadBuf, head_bytes, interim, refusal, status};
@@ -19,7 +20,7 @@ const BEYOND: u64 = 253_402_300_800;
 const DATE_AND_SERVER: &[u8] = b"Date: Sun, 06 Nov 1994 08:49:37 GMT\r\nServer: warp-profile\r\n";
 
 /// Whether a status has a phrase.
-#[tactic(auto, unfolding(crate::specs::Reply::HasPhrase))]
+#[tactic(auto, unfolding(crate::specs::Statuses::HasPhrase))]
 fn has_phrase(code: u16) -> bool
     ensures { IsTrue result → HasPhrase code }
 {

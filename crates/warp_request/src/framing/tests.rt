@@ -4,7 +4,7 @@ use crate::body_reader::{BodyReader, BodyState, Fed};
 use crate::limits::BODY_LIMIT;
 use crate::next;
 use crate::scratch::Scratch;
-use crate::status::{BAD_REQUEST, CONTENT_TOO_LARGE, EXPECTATION_FAILED, NOT_IMPLEMENTED};
+use warp_response::status::{BAD_REQUEST, CONTENT_TOO_LARGE, EXPECTATION_FAILED, NOT_IMPLEMENTED};
 use crate::verdict::{Framing, Next};
 use std::alloc::Global;
 use std::process::Abort;

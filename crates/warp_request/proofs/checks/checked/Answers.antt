@@ -4,8 +4,7 @@ use Rattle.std.specs.List.{list_all}
 use Rattle.httparse.specs.Spans.{header_bytes}
 use Rattle.httparse.specs.declared.spans.HeaderSpan.{HeaderSpan}
 use Rattle.httparse.specs.declared.spans.RequestSpans.{RequestSpans}
-use Rattle.warp_request.specs.declared.limits.TheConstants.{FIELD_LIMIT}
-use Rattle.warp_request.specs.declared.names.TheConstants.{CONNECTION, EXPECT}
+use Rattle.warp_request.specs.LimitsAndWords.{field_limit, connection_name, expect_name}
 use Rattle.warp_request.specs.Content.{waits_for_interim}
 use Rattle.warp_request.specs.Fields.{values_of, stays_open}
 use Rattle.warp_request.specs.Target.{is_visible}
@@ -16,7 +15,7 @@ use Rattle.warp_request.proofs.NamedLemmas.{connection_is, expect_is}
 use Rattle.warp_request.proofs.checks.checked.Goals as goal
 
 -- the spans show no more fields than the head has
-few : (bytes : List ℕ) (spans : List HeaderSpan) (head : RequestSpans) → head.headers ≤ FIELD_LIMIT → length (parts_shown bytes spans head).fields ≤ FIELD_LIMIT
+few : (bytes : List ℕ) (spans : List HeaderSpan) (head : RequestSpans) → head.headers ≤ field_limit → length (parts_shown bytes spans head).fields ≤ field_limit
 few bytes spans head small = omega (arith, length-map (take head.headers spans) (header_bytes bytes), length-take head.headers spans)
 
 pub returns-then-head-gt-FIELD_LIMIT-clause-is : goal.returns-then-head-gt-FIELD_LIMIT-clause-is
@@ -50,10 +49,10 @@ returns-in-Ok-clause-is c =
     let lines = c.read-lines.result in
     let framing = c.in-Ok.framing in
     let says = framing_is c.args.head.version parts.fields framing (sym (c.framing.ensures parts.fields c.read-lines.ensures) ∙ c.in-Ok.is) in
-    let keeps : c.stays_open.result ≡ stays_open parts.minor (values_of CONNECTION.now parts.fields) =
-    c.stays_open.ensures (values_of CONNECTION.now parts.fields) (connection_is lines parts.fields c.read-lines.ensures) in
-    let interim : c.waits.result ≡ waits_for_interim parts.minor (values_of EXPECT.now parts.fields) framing =
-    c.waits.ensures (values_of EXPECT.now parts.fields) (expect_is lines parts.fields c.read-lines.ensures) in
+    let keeps : c.stays_open.result ≡ stays_open parts.minor (values_of connection_name parts.fields) =
+    c.stays_open.ensures (values_of connection_name parts.fields) (connection_is lines parts.fields c.read-lines.ensures) in
+    let interim : c.waits.result ≡ waits_for_interim parts.minor (values_of expect_name parts.fields) framing =
+    c.waits.ensures (values_of expect_name parts.fields) (expect_is lines parts.fields c.read-lines.ensures) in
     shows_asked parts framing c.stays_open.result c.waits.result says.1 keeps interim
     ∙ sym (by_fields parts None (few c.args.bytes.now c.args.spans.now c.args.head c.if-head-gt-FIELD_LIMIT.false)
     (ap (list_all is_visible) (sym c.of-target.ensures) ∙ sym c.is_visible.ensures ∙ c.if-not-is_visible.false)

@@ -1,10 +1,13 @@
-use Rattle.std.proofs.Common.{◌≡◌, ◌+◌, ◌-◌, ℕ, List, ◌++◌, length, take, drop, ◌∙◌, sym, ap, subst, append_assoc, length-drop, refl, arith}
+use Rattle.std.proofs.Common.{◌≡◌, ◌+◌, ◌-◌, ◌<◌, ◌≤◌, ◌⊎◌, inl, inr, ℕ, List, ◌++◌, length, take, drop, ◌∙◌, sym, ap, subst, append_assoc, length-drop, refl, arith}
 use Rattle.std.proofs.Math.Seq.{take-add}
 use Rattle.std.proofs.lemmas.List.{take_all}
 use Rattle.warp_request.specs.declared.body_reader.BodyReader.{BodyReader}
 use Rattle.warp_request.specs.declared.body_reader.BodyState.{BodyState}
 use Rattle.warp_request.specs.declared.body_reader.BodyState.TheVariants as States
-use Rattle.warp_request.specs.BodyReader.{StandsFor, state_of, state_verdict}
+use Rattle.std.proofs.lemmas.Bool.{cases_lt}
+use Rattle.warp_request.specs.declared.verdict.Framing.{Framing}
+use Rattle.warp_request.specs.Body.{body_of, more}
+use Rattle.warp_request.specs.BodyReader.{Represents, state_of, state_verdict}
 use Rattle.warp_request.proofs.BodyReaderLemmas.{says_of_all}
 use Rattle.warp_request.proofs.body_reader.BodyReader.feed.Goals as goal
 use Rattle.warp_request.proofs.body_reader.BodyReader.feed.Goals.{then-loop-used-test+else-is_open, else-loop-used-test}
@@ -20,6 +23,20 @@ used_next fed piece used n =
     ∙ ap (λ (t : List ℕ). fed ++ (take used piece ++ take n t)) (rest_is piece used)
     ∙ ap (λ (t : List ℕ). fed ++ t) (sym (take-add used n piece))
 
+-- a front of the bytes used so far, or one that ends in those used next
+next_first : (piece : List ℕ) (used n : ℕ) (framing : Framing) (fed : List ℕ) (m : ℕ) → m < used + n
+    → ((k : ℕ) → k < used → body_of framing (fed ++ take k piece) ≡ more)
+    → ((k : ℕ) → k < n → body_of framing (fed ++ take used piece ++ take k (take (length piece - used) (drop used piece))) ≡ more)
+    → body_of framing (fed ++ take m piece) ≡ more
+next_first piece used n framing fed m before old next = go (cases_lt m used)
+  where
+    go : (m < used) ⊎ (used ≤ m) → body_of framing (fed ++ take m piece) ≡ more
+    go (inl early) = old m early
+    go (inr late) =
+        let e : used + (m - used) ≡ m = omega (arith, late) in
+        sym (ap (λ (t : List ℕ). body_of framing t) (used_next fed piece used (m - used) ∙ ap (λ (k : ℕ). fed ++ take k piece) e))
+        ∙ next (m - used) (omega (arith, before, late))
+
 pub loop-used-preserved : goal.loop-used-preserved
 loop-used-preserved c =
     let piece = c.args.piece.now in
@@ -29,8 +46,10 @@ loop-used-preserved c =
     record {
       within = omega (arith, c.advance-used.ensures.within, size, c.loop-used-test.true);
       stands = λ framing fed first.
-          subst (λ (t : List ℕ). StandsFor c.advance-used.new.self framing t) (used_next fed piece used n)
+          subst (λ (t : List ℕ). Represents c.advance-used.new.self framing t) (used_next fed piece used n)
           (c.advance-used.ensures.stands framing (fed ++ take used piece) (c.loop-used.invariant.stands framing fed first));
+      first = λ framing fed stood m before. next_first piece used n framing fed m before (c.loop-used.invariant.first framing fed stood)
+          (c.advance-used.ensures.first framing (fed ++ take used piece) (c.loop-used.invariant.stands framing fed stood));
       ended = λ over.
           let same = c.loop-used.invariant.ended over in
           absurd (over (ap (λ (r : BodyReader). state_of r) (sym same.1) ∙ c.if-is_open.ensures.0 refl));

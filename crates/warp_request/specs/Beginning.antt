@@ -8,17 +8,17 @@ use Rattle.httparse.proofs.GrammarLemmas.{request_head, request_from_pieces}
 use Rattle.httparse.proofs.HeadLemmas.{request_not_yet, request_never}
 use Rattle.warp_request.specs.Decide.{Decision, found, cut, never, decide_then, decide_start, decide_section}
 
-pub data Reading (s : List ℕ) : Type 0 where
-  whole : (head : RequestHead) (rest : List ℕ) → ReadsRequest s head rest → Reading s
-  unfinished : HasNoRequest s → MayBecomeRequest s → Reading s
-  invalid : NeverHasRequest s → Reading s
+pub data Beginning (s : List ℕ) : Type 0 where
+  whole : (head : RequestHead) (rest : List ℕ) → ReadsRequest s head rest → Beginning s
+  unfinished : HasNoRequest s → MayBecomeRequest s → Beginning s
+  invalid : NeverHasRequest s → Beginning s
 
-reading_of : (s : List ℕ) → Decision (Then RequestStart Section) MayBecomeRequest s → Reading s
-reading_of s (found t rest x) = whole (request_head t) rest (request_from_pieces s t rest x)
-reading_of s (cut nay may) = unfinished (request_not_yet nay) may
-reading_of s (never nay) = invalid (request_never nay)
+beginning_of : (s : List ℕ) → Decision (Then RequestStart Section) MayBecomeRequest s → Beginning s
+beginning_of s (found t rest x) = whole (request_head t) rest (request_from_pieces s t rest x)
+beginning_of s (cut nay may) = unfinished (request_not_yet nay) may
+beginning_of s (never nay) = invalid (request_never nay)
 
-pub reading : (s : List ℕ) → Reading s
-reading s = reading_of s
+pub beginning : (s : List ℕ) → Beginning s
+beginning s = beginning_of s
     (decide_then RequestStart_deterministic s request_may_from_line
     (λ a t x may. request_may (Completes_next RequestStart_deterministic {a = a} x may)) (decide_start s) decide_section)
