@@ -1,3 +1,4 @@
 pub mod ReplyLemmas
 pub mod FolderLemmas
 pub mod BelowLemmas
+pub mod KeptLemmas

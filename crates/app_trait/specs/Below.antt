@@ -1,4 +1,4 @@
--- Where a look may lead: below the folder that is served, and to no hidden file.
+-- To be believed: where a look may lead, below the folder that is served and to no hidden file.
 use Rattle.std.specs.Prelude.{◌≡◌, ℕ, Bool, ◌&&◌, not, IsTrue, List}
 use Rattle.std.specs.List.{list_all, join_with_byte}
 use Rattle.path_rules.specs.Route.{is_empty, is_name}

@@ -1,7 +1,7 @@
--- The laws of a folder's application: it answers after two looks, and each answer is proper.
+-- Inner: the proofs that the application of a folder answers after two looks, and that each answer is proper. Trusted by their types.
 use Rattle.std.specs.Prelude.{◌≡◌, ℕ, Bool, true, false, List, refl}
 use Rattle.std.proofs.Common.{arith}
-use Rattle.warp_response.specs.Reply.{HasPhrase}
+use Rattle.warp_response.specs.Statuses.{HasPhrase}
 use Rattle.path_rules.specs.Route.{RouteOf, route_of}
 use Rattle.path_rules.specs.Route as routed
 use Rattle.app_trait.specs.declared.request.Seen.{Seen}

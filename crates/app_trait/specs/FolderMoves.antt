@@ -1,4 +1,4 @@
--- What the application of a folder does, look by look.
+-- To be believed: what the application of a folder does, look by look.
 use Rattle.std.specs.Prelude.{ℕ, Bool, true, false, List, Some, None}
 use Rattle.path_rules.specs.Route.{RouteOf, route_of}
 use Rattle.path_rules.specs.Route as routed
@@ -39,11 +39,13 @@ path_move path target send FirstAbsent = look_at (index_of path)
 path_move path target send (SecondFound size mtime) = answer (moved_from target)
 path_move path target send SecondAbsent = answer (plain 404 false)
 
+-- a target goes by its route
 abbrev pub move_by_route : RouteOf → List ℕ → Bool → Seen → AppMove
 move_by_route routed.not_found target send seen = answer (plain 404 false)
 move_by_route (routed.index path) target send seen = index_move path send seen
 move_by_route (routed.path path) target send seen = path_move path target send seen
 
+-- a request goes by its method
 abbrev pub move_by_method : Method → List ℕ → Seen → AppMove
 move_by_method Get target seen = move_by_route (route_of target) target true seen
 move_by_method Head target seen = move_by_route (route_of target) target false seen
@@ -51,5 +53,6 @@ move_by_method Options target seen = answer (plain 200 true)
 move_by_method Refused target seen = answer (plain 405 true)
 move_by_method Unknown target seen = answer (plain 501 false)
 
+-- what the application of a folder does with a request, once this has been seen
 unfoldable pub folder_move : RequestText → Seen → AppMove
 folder_move request seen = move_by_method (method_of request.method) request.target seen

@@ -1,4 +1,4 @@
--- What a folder answers to a request: a table over the method, the route of the target and what the folder has there.
+-- To be believed: what a folder answers to a request, a table over the method, the route of the target and what the folder has there.
 use Rattle.std.specs.Prelude.{◌≡◌, ℕ, Bool, true, false, List, ◌++◌, Option, Some, None, codes}
 use Rattle.outside.specs.Folder.{Folder, Content, file_at}
 use Rattle.warp_response.specs.Reply.{Reply, empty, file, location, refusal_reply}
@@ -70,6 +70,7 @@ reply_by_route folder routed.not_found target send = missing
 reply_by_route folder (routed.index path) target send = reply_at_index (file_at folder path) path send
 reply_by_route folder (routed.path path) target send = reply_at_path folder (file_at folder path) path target send
 
+-- a request goes by its method
 abbrev pub reply_by_method : Folder → Method → List ℕ → Reply
 reply_by_method folder Get target = reply_by_route folder (route_of target) target true
 reply_by_method folder Head target = reply_by_route folder (route_of target) target false

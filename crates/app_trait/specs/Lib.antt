@@ -7,3 +7,4 @@ pub mod FolderReply
 pub mod FolderMoves
 pub mod Below
 pub mod FolderLaws
+pub mod Laws

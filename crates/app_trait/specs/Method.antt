@@ -1,4 +1,4 @@
--- How the folder takes a method (RFC 9110, section 9).
+-- To be believed: how the folder takes a method (RFC 9110, section 9).
 use Rattle.std.specs.Prelude.{ℕ, List, [], ◌∷◌, codes, if◌then◌else◌}
 use Rattle.std.specs.List.{list_any}
 use Rattle.std.specs.Str.{bytes_eq}

@@ -1,11 +1,11 @@
--- What an application does with a request, once its looks have found this much.
+-- To be believed: what an application does with a request, once its looks have found this much.
 use Rattle.std.specs.Prelude.{◌≡◌, ◌↔◌, ℕ, Bool, true, false, IsTrue, List, Option, IsSome}
 use Rattle.warp_response.specs.declared.response.Kind.{Kind}
-use Rattle.warp_response.specs.Reply.{HasPhrase}
+use Rattle.warp_response.specs.Statuses.{HasPhrase}
 use Rattle.app_trait.specs.declared.request.Request.{Request}
 use Rattle.app_trait.specs.declared.request.Seen.{Seen}
-use Rattle.app_trait.specs.declared.request.Seen.TheVariants.{SecondFound, SecondAbsent}
-use Rattle.app_trait.specs.Seen.{HasFound}
+use Rattle.app_trait.specs.declared.request.Seen.TheVariants.{Nothing, FirstFound, FirstAbsent, SecondFound, SecondAbsent}
+use Rattle.app_trait.specs.Seen.{HasFound, next_seen}
 
 -- a request, as an application sees it
 pub record RequestText : Type 0 where
@@ -17,8 +17,7 @@ pub record RequestText : Type 0 where
 abbrev pub text_of : Request → RequestText
 text_of request = record { method = request.method.now; target = request.target.now; minor = request.minor }
 
--- What an answer shows as its content: none, one without bytes, or the file that the last look found, and whether its
--- bytes are sent.
+-- what an answer shows as its content: none, one without bytes, or the file that the last look found, sent or not
 pub data ShownContent : Type 0 where
   none : ShownContent
   empty : ShownContent
@@ -30,7 +29,7 @@ is_found none = false
 is_found empty = false
 is_found (found send) = true
 
--- A reply whose file, where it has one, is the file that the last look found. Its place is the bytes of Location.
+-- a reply whose file, where it has one, is the file that the last look found; its place is the bytes of Location
 pub record Outline : Type 0 where
   pub status : ℕ
   pub content : ShownContent
@@ -57,8 +56,7 @@ pub record EndsWithTwo (moves : Moves) : Type 0 where
   pub found : (request : RequestText) (size mtime : ℕ) → IsAnswer (moves request (SecondFound size mtime))
   pub absent : (request : RequestText) → IsAnswer (moves request SecondAbsent)
 
--- What holds of each answer: its status has a phrase, it has a place exactly at 301, a file only at 200 and after a look
--- that found it, and a kind exactly where it has a file.
+-- each answer has a status with a phrase, a place exactly at 301, a file only at 200 and found, and a kind exactly with a file
 pub record IsProper (seen : Seen) (outline : Outline) : Type 0 where
   pub phrase : HasPhrase outline.status
   pub moved : IsSome outline.place ↔ (outline.status ≡ 301)
@@ -70,3 +68,18 @@ pub record IsProper (seen : Seen) (outline : Outline) : Type 0 where
 abbrev pub IsProperMove : Seen → AppMove → Type 0
 IsProperMove seen (look_at path) = Unit {0}
 IsProperMove seen (answer outline) = IsProper seen outline
+
+-- a look at a path led to what was seen
+pub record WasLookedFor (move : Seen → AppMove) (seen : Seen) (path : List ℕ) : Type 0 where
+  pub before : Seen
+  pub found : Option (ℕ × ℕ)
+  pub next : seen ≡ next_seen before found
+  pub looked : move before ≡ look_at path
+
+-- once something was seen, the path is the one that was looked for last
+abbrev pub PathKept : (Seen → AppMove) → Seen → List ℕ → Type 0
+PathKept move Nothing path = Unit {0}
+PathKept move (FirstFound size mtime) path = WasLookedFor move (FirstFound size mtime) path
+PathKept move FirstAbsent path = WasLookedFor move FirstAbsent path
+PathKept move (SecondFound size mtime) path = WasLookedFor move (SecondFound size mtime) path
+PathKept move SecondAbsent path = WasLookedFor move SecondAbsent path

@@ -1,4 +1,4 @@
--- The reply that an application's moves come to over a folder, in at most two looks.
+-- To be believed: the reply that an application's moves come to over a folder, in at most two looks.
 use Rattle.std.specs.Prelude.{◌≡◌, ℕ, Option, Some, None, option_map, length}
 use Rattle.outside.specs.Folder.{Folder, Content, file_at}
 use Rattle.warp_response.specs.Reply.{Reply, ReplyContent, refusal_reply}
@@ -37,7 +37,7 @@ filled outline look = record {
   allow = outline.allow;
 }
 
--- The reply after two looks, the last of which found this. No application asks for a third one.
+-- the reply after two looks, the last of which found this; no application asks for a third one
 unfoldable pub after_two : AppMove → Option Content → Reply
 after_two (look_at path) look = refusal_reply 404
 after_two (answer outline) look = filled outline look

@@ -1,4 +1,4 @@
--- What the looks for one request have found so far.
+-- To be believed: what the looks for one request have found so far.
 use Rattle.std.specs.Prelude.{ℕ, Option, Some, None}
 use Rattle.app_trait.specs.declared.request.Seen.{Seen}
 use Rattle.app_trait.specs.declared.request.Seen.TheVariants.{Nothing, FirstFound, FirstAbsent, SecondFound, SecondAbsent}

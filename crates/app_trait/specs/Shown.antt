@@ -1,4 +1,4 @@
--- The move that a result of `reply` shows, and what its numbers and spans keep to.
+-- To be believed: the move that a result of `reply` shows, and what its numbers and spans keep to.
 use Rattle.std.specs.Prelude.{◌≡◌, ℕ, List, option_map}
 use Rattle.std.specs.Option.{ForSome}
 use Rattle.warp_response.specs.declared.response.Content.{Content}

@@ -1,10 +1,12 @@
 // The application that serves the files of a folder: it goes by the method, then by what the target stands for, then by
-// what its looks have found. It keeps nothing between calls, so it finds the path of a request again after each look.
-ghost use Rattle.std.specs.Prelude.{◌≡◌, ◌≤◌, ℕ, List, [], length};
+// what its looks have found. It keeps nothing between calls: the path of a look that was made is still there, and the
+// target is routed again only where a first look found no file.
+ghost use Rattle.std.specs.Prelude.{◌≡◌, ℕ, List, []};
 ghost use Rattle.path_rules.specs.Route.{route_of};
 ghost use Rattle.app_trait.specs.declared.request.Seen.{Seen as Sight};
 ghost use Rattle.app_trait.specs.Shown.{outline_of, move_shown, Fits, FitsMove};
-ghost use Rattle.app_trait.specs.FolderMoves.{plain, found_at, moved_from, index_move, path_move, move_by_route};
+ghost use Rattle.app_trait.specs.FolderMoves.{plain, found_at, moved_from, move_by_route};
+ghost use Rattle.app_trait.specs.Moves.{PathKept};
 
 use crate::app::{App, Move};
 use crate::method::{Method, method_of};
@@ -65,45 +67,42 @@ impl FolderApp {
 
 /// The answer to GET and HEAD, or the look that it needs.
 fn file_move(target: &[u8], send: bool, seen: Seen, path: &mut PathBuf8) -> Move
+    requires kept { PathKept (move_by_route (route_of target.now) target.now send) seen path.old }
     ensures is { move_shown target.now result path.new ≡ move_by_route (route_of target.now) target.now send seen }
     ensures fits { FitsMove target.now seen result }
 {
+    match seen {
+        Seen::Nothing => first_look(target, send, path),
+        Seen::FirstFound { size, .. } => Move::Answer(found(size, send, path)),
+        Seen::FirstAbsent => second_look(target, send, path),
+        Seen::SecondFound { .. } => Move::Answer(moved(target)),
+        Seen::SecondAbsent => Move::Answer(plain(status::NOT_FOUND, false)),
+    }
+}
+
+/// The first look is for the path, where the target has one.
+fn first_look(target: &[u8], send: bool, path: &mut PathBuf8) -> Move
+    ensures is { move_shown target.now result path.new ≡ move_by_route (route_of target.now) target.now send Sight.Nothing }
+    ensures fits { FitsMove target.now Sight.Nothing result }
+{
     match route(target, path) {
         Route::NotFound => Move::Answer(plain(status::NOT_FOUND, false)),
-        Route::Index => at_index(send, seen, path),
-        Route::Path => at_path(target, send, seen, path),
+        Route::Index | Route::Path => Move::Look,
     }
 }
 
-/// At an index one look decides.
-fn at_index(send: bool, seen: Seen, path: &PathBuf8) -> Move
-    ensures is { (target : List ℕ) → move_shown target result path.now ≡ index_move path.now send seen }
-    ensures fits { (target : List ℕ) → FitsMove target seen result }
+/// Where there is no file at a path, a second look is for the index below it. At an index one look decides.
+fn second_look(target: &[u8], send: bool, path: &mut PathBuf8) -> Move
+    ensures is { move_shown target.now result path.new ≡ move_by_route (route_of target.now) target.now send Sight.FirstAbsent }
+    ensures fits { FitsMove target.now Sight.FirstAbsent result }
 {
-    match seen {
-        Seen::Nothing => Move::Look,
-        Seen::FirstFound { size, .. } => Move::Answer(found(size, send, path)),
-        Seen::FirstAbsent | Seen::SecondFound { .. } | Seen::SecondAbsent => {
-            Move::Answer(plain(status::NOT_FOUND, false))
-        }
-    }
-}
-
-/// At a path a second look is for the index below it.
-fn at_path(target: &[u8], send: bool, seen: Seen, path: &mut PathBuf8) -> Move
-    requires { length path.old ≤ 3900 }
-    ensures is { move_shown target.now result path.new ≡ path_move path.old target.now send seen }
-    ensures fits { FitsMove target.now seen result }
-{
-    match seen {
-        Seen::Nothing => Move::Look,
-        Seen::FirstFound { size, .. } => Move::Answer(found(size, send, path)),
-        Seen::FirstAbsent => {
+    match route(target, path) {
+        Route::Path => {
             let _fits = path.add(INDEX);
             Move::Look
         }
-        Seen::SecondFound { .. } => Move::Answer(moved(target)),
-        Seen::SecondAbsent => Move::Answer(plain(status::NOT_FOUND, false)),
+        Route::Index => Move::Answer(plain(status::NOT_FOUND, false)),
+        Route::NotFound => Move::Answer(plain(status::NOT_FOUND, false)),
     }
 }
 

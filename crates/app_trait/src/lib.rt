@@ -7,6 +7,7 @@
 
 mod app;
 mod folder_app;
+mod laws;
 mod method;
 mod request;
 #[cfg(test)]
@@ -14,4 +15,6 @@ mod tests;
 
 pub use app::{App, Move};
 pub use folder_app::FolderApp;
+pub use laws::{an_answer_can_be_sent, looks_come_to_one_reply};
+pub use method::Method;
 pub use request::{Request, Seen};

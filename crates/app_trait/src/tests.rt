@@ -1,4 +1,9 @@
 // A small folder, asked by each method and by each kind of target.
+ghost use Rattle.std.specs.Prelude.{◌≡◌, option_map};
+ghost use Rattle.app_trait.specs.FolderMoves.{folder_move};
+ghost use Rattle.app_trait.specs.Moves.{PathKept, text_of};
+ghost use Rattle.app_trait.specs.Seen.{next_seen};
+
 use crate::{App, FolderApp, Move, Request, Seen};
 use path_rules::PathBuf8;
 use std::test::Fail;
@@ -12,31 +17,66 @@ const FILES: [(&str, u64); 4] = [
     ("sub/index.html", 4),
 ];
 
-/// What is seen once the folder was looked at.
-fn look(seen: Seen, path: &str) -> Seen {
+/// The time of each file.
+const MTIME: u64 = 784_111_777;
+
+/// The size of the file at a path, where there is one.
+fn size_of(path: &str) -> Option<u64> {
     for (at, size) in FILES {
         if at == path {
-            return seen.found(size, 784111777);
+            return Some(size);
         }
     }
-    seen.absent()
+    None
+}
+
+/// What is seen once a look has found this.
+fn seen_after(seen: Seen, size: Option<u64>) -> Seen
+    ensures { result ≡ next_seen seen (option_map (λ s. (s, MTIME)) size) }
+{
+    match size {
+        Some(size) => seen.found(size, MTIME),
+        None => seen.absent(),
+    }
 }
 
 /// What the application answers, and after how many looks.
+#[tactic(auto, using(crate::proofs::KeptLemmas::kept_next))]
 fn ask(method: &str, target: &str, path: &mut PathBuf8) -> Option<(u8, Response)> {
     let request = Request {
         method: method.as_bytes(),
         target: target.as_bytes(),
         minor: 1,
     };
-    let mut seen = Seen::Nothing;
-    for looks in 0..3 {
-        match FolderApp.reply(&request, seen, path) {
-            Move::Look => seen = look(seen, path.text()),
-            Move::Answer(response) => return Some((looks, response)),
-        }
+    match FolderApp.reply(&request, Seen::Nothing, path) {
+        Move::Answer(response) => Some((0, response)),
+        Move::Look => ask_again(
+            &request,
+            seen_after(Seen::Nothing, size_of(path.text())),
+            path,
+        ),
     }
-    None
+}
+
+/// What it answers after one look or two.
+#[tactic(auto, using(crate::proofs::KeptLemmas::kept_next))]
+fn ask_again(request: &Request<'_>, seen: Seen, path: &mut PathBuf8) -> Option<(u8, Response)>
+    requires { PathKept (folder_move (text_of request.now)) seen path.old }
+{
+    match FolderApp.reply(request, seen, path) {
+        Move::Answer(response) => Some((1, response)),
+        Move::Look => ask_last(request, seen_after(seen, size_of(path.text())), path),
+    }
+}
+
+/// What it answers after two looks.
+fn ask_last(request: &Request<'_>, seen: Seen, path: &mut PathBuf8) -> Option<(u8, Response)>
+    requires { PathKept (folder_move (text_of request.now)) seen path.old }
+{
+    match FolderApp.reply(request, seen, path) {
+        Move::Answer(response) => Some((2, response)),
+        Move::Look => None,
+    }
 }
 
 fn empty(status: u16, allow: bool) -> Response {

@@ -7,12 +7,12 @@ ghost use Rattle.warp_request.specs.Body.{body_of, more};
 ghost use Rattle.warp_request.specs.BodyReader.{Skips, RepresentsAt, Represents, state_of, state_verdict};
 
 use crate::body_place::{
-    LINE_FEED, BodyPlace, TRAILER_LIMIT, TrailerLine, behind_chunk, behind_chunk_return, behind_digits,
-    behind_extension, behind_trailer_byte, chunk_place, content_place,
+    BodyPlace, LINE_FEED, TRAILER_LIMIT, TrailerLine, behind_chunk, behind_chunk_return,
+    behind_digits, behind_extension, behind_trailer_byte, chunk_place, content_place,
 };
 use crate::limits::BODY_LIMIT;
-use warp_response::status::{BAD_REQUEST, CONTENT_TOO_LARGE};
 use crate::verdict::Framing;
+use warp_response::status::{BAD_REQUEST, CONTENT_TOO_LARGE};
 
 /// Where a reader stands with its body.
 #[derive(Clone, Copy, Debug, PartialEq, Eq)]

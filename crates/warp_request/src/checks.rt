@@ -6,10 +6,10 @@ ghost use Rattle.warp_request.specs.Shown.{shown, parts_shown, LiesIn};
 
 use crate::fields::NamedLines;
 use crate::limits::FIELD_LIMIT;
-use warp_response::status::{BAD_REQUEST, HEADER_FIELDS_TOO_LARGE};
 use crate::target::{is_target_form, is_visible};
 use crate::verdict::{HeadInfo, Next};
 use httparse::spans::{HeaderSpan, RequestSpans};
+use warp_response::status::{BAD_REQUEST, HEADER_FIELDS_TOO_LARGE};
 
 /// The verdict on a head whose fields are the first `head.headers` of `spans`.
 pub(crate) fn checked(bytes: &[u8], spans: &[HeaderSpan], head: RequestSpans) -> Next

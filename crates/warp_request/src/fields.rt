@@ -10,9 +10,9 @@ use crate::framing::framing;
 use crate::host::HostLines;
 use crate::length::LengthLines;
 use crate::names::{KnownName, known_name};
-use warp_response::status::{BAD_REQUEST, EXPECTATION_FAILED};
 use crate::verdict::Framing;
 use httparse::spans::HeaderSpan;
+use warp_response::status::{BAD_REQUEST, EXPECTATION_FAILED};
 
 /// What the lines of each name say.
 #[derive(Clone, Copy)]

@@ -6,8 +6,8 @@ ghost use Rattle.warp_request.specs.NamedLines.{framing_by_codings, framing_by_l
 use crate::coding::CodingLines;
 use crate::length::{LengthLines, number_of};
 use crate::limits::BODY_LIMIT;
-use warp_response::status::{BAD_REQUEST, CONTENT_TOO_LARGE, NOT_IMPLEMENTED};
 use crate::verdict::Framing;
+use warp_response::status::{BAD_REQUEST, CONTENT_TOO_LARGE, NOT_IMPLEMENTED};
 
 /// The framing in a head of this minor version, or the status of the first fault in the lines that say it.
 pub(crate) fn framing(minor: u8, codings: CodingLines, lengths: LengthLines) -> Result<Framing, u16>

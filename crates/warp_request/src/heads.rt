@@ -9,10 +9,10 @@ use crate::checks::checked;
 use crate::limits::{FIELD_ROOM, HEAD_LIMIT};
 use crate::lines::has_line;
 use crate::scratch::Scratch;
-use warp_response::status::{BAD_REQUEST, HEADER_FIELDS_TOO_LARGE, URI_TOO_LONG};
 use crate::verdict::Next;
 use httparse::Status;
 use httparse::spans::{HeaderSpan, parse_request};
+use warp_response::status::{BAD_REQUEST, HEADER_FIELDS_TOO_LARGE, URI_TOO_LONG};
 
 /// What the parser says of a window.
 pub(crate) enum Parsed {

@@ -1,12 +1,12 @@
 // The cases that a reader of the rules would try, each with the verdict that the rules give.
 use crate::limits::{FIELD_LIMIT, HEAD_LIMIT};
 use crate::scratch::Scratch;
-use warp_response::status::{BAD_REQUEST, HEADER_FIELDS_TOO_LARGE, NOT_IMPLEMENTED, URI_TOO_LONG};
 use crate::verdict::{Framing, HeadInfo, Next, Span};
 use crate::{is_blank, next};
 use std::alloc::{AllocError, Global};
 use std::process::Abort;
 use std::test::*;
+use warp_response::status::{BAD_REQUEST, HEADER_FIELDS_TOO_LARGE, NOT_IMPLEMENTED, URI_TOO_LONG};
 
 /// A head: the places of its method and its target, its minor version, its length, and whether the
 /// connection stays open; then its framing, and whether an interim answer is due.
@@ -457,7 +457,10 @@ fn a_head_ends_within_the_limit(rt: HostRuntime) -> Result<(), Fail> {
     let more = long_text(rt.alloc(), front, 8_160, b"\r\n\r")?;
     assert_eq!(rt; next(&more, &mut scratch), Next::More);
     let long = long_text(rt.alloc(), front, 8_161, b"\r\n\r\n")?;
-    assert_eq!(rt; next(&long, &mut scratch), Next::Refuse(HEADER_FIELDS_TOO_LARGE));
+    assert_eq!(rt;
+        next(&long, &mut scratch),
+        Next::Refuse(HEADER_FIELDS_TOO_LARGE)
+    );
     Ok(())
 }
 
@@ -473,7 +476,10 @@ fn a_head_has_at_most_100_fields(rt: HostRuntime) -> Result<(), Fail> {
     text.extend_from_slice(b"\r\n")?;
     assert_eq!(rt; next(&text, &mut scratch), asked!(0..3, 4..5, 1, 621, true));
     more.extend_from_slice(b"Host: b c\r\n\r\n")?;
-    assert_eq!(rt; next(&more, &mut scratch), Next::Refuse(HEADER_FIELDS_TOO_LARGE));
+    assert_eq!(rt;
+        next(&more, &mut scratch),
+        Next::Refuse(HEADER_FIELDS_TOO_LARGE)
+    );
     Ok(())
 }
 

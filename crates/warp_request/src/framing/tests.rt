@@ -4,11 +4,11 @@ use crate::body_reader::{BodyReader, BodyState, Fed};
 use crate::limits::BODY_LIMIT;
 use crate::next;
 use crate::scratch::Scratch;
-use warp_response::status::{BAD_REQUEST, CONTENT_TOO_LARGE, EXPECTATION_FAILED, NOT_IMPLEMENTED};
 use crate::verdict::{Framing, Next};
 use std::alloc::Global;
 use std::process::Abort;
 use std::test::*;
+use warp_response::status::{BAD_REQUEST, CONTENT_TOO_LARGE, EXPECTATION_FAILED, NOT_IMPLEMENTED};
 
 /// What the head is for, its version, its lines behind Host, and the verdict on it: the framing and whether an
 /// interim answer is due, or the status of a refusal.
