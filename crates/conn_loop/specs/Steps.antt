@@ -1,26 +1,29 @@
--- How far a part of a call brings a connection: it goes on, or a step is answered.
+-- Inner: how far a part of a call brings a connection: it goes on, or a step is answered.
 use Rattle.std.specs.Prelude.{◌≡◌, ℕ, ◌+◌, ◌*◌, ◌<◌, List, Bool, Option, Some, None, IfSome}
 use Rattle.outside.specs.Causes.{LinkTold, KeepsLink}
 use Rattle.outside.specs.FileCauses.{FilesTold}
 use Rattle.conn_loop.specs.declared.step.Step.{Step}
-use Rattle.conn_loop.specs.declared.step.Step.TheVariants.{WantRead, WantWrite, Done}
+use Rattle.conn_loop.specs.declared.step.Step.TheVariants.{WantRead, WantWrite, WantFile, Done}
+use Rattle.conn_loop.specs.declared.phase.Duty.{Duty}
+use Rattle.conn_loop.specs.declared.phase.Duty.TheVariants as Duties
 use Rattle.outside.specs.declared.link.ReadOut.{ReadOut}
 use Rattle.outside.specs.declared.link.ReadOut.TheVariants as read
-use Rattle.conn_loop.specs.Stages.{Stage, finished, body_steps, grown, steps_left, IsReadyStage}
+use Rattle.conn_loop.specs.Stages.{Stage, unread, short, reading, refusing, ready, wanting, sending, unmade, broken, finished, body_steps, grown, steps_left, failing, Fails, HasNoContent}
 use Rattle.conn_loop.specs.declared.step.End.{End}
 use Rattle.conn_loop.specs.declared.step.End.TheVariants.{Clean, Cut, ReadFault, WriteFault, FileFault, NoMemory}
 use Rattle.conn_loop.specs.Causes.{HasFault, CountsWaits, Keeps}
-use Rattle.conn_loop.specs.Replying.{Replying}
-use Rattle.conn_loop.specs.Standing.{Standing, Accounts, IsAt, Told}
+use Rattle.conn_loop.specs.Ends.{WhereTold}
+use Rattle.conn_loop.specs.Replying.{Serving}
+use Rattle.conn_loop.specs.Standing.{Standing, Accounts, Counted, HoldsAt, IsAsking}
 
 -- what was taken is accounted for; the connection goes on, or answers a step that says so
-pub record Comes (result : Option Step) (reply : Replying) (c : Standing) (taken sent : List ℕ) (ended : Option Bool) : Type 0 where
-  pub accounts : Accounts reply c taken sent
-  pub at : IsAt result reply c.moments taken sent ended
+pub record Comes (result : Option Step) (serving : Serving) (c : Standing) (taken sent : List ℕ) (ended : Option Bool) : Type 0 where
+  pub accounts : Accounts serving c taken sent
+  pub at : HoldsAt result serving c.moments taken sent ended
 
 -- the same of what its link tells
-abbrev pub ComesFor : Option Step → Option Replying → Standing → LinkTold → Type 0
-ComesFor result reply c link = Told reply link (λ r t s. Comes result r c t s link.ended)
+abbrev pub ComesFor : Option Step → Option Serving → Standing → LinkTold → Type 0
+ComesFor result serving c link = WhereTold serving link (λ v t s. Comes result v c t s link.ended)
 
 -- a wait was counted where one is answered, and else none
 abbrev pub CountsFor : Option Step → (link later : LinkTold) → Type 0
@@ -28,31 +31,60 @@ CountsFor None link later = later.waits ≡ link.waits
 CountsFor (Some step) link later = CountsWaits step link later
 
 -- a part of a call that files have no part in: a step that is answered has its cause in the link's counts
-pub record Goes (result : Option Step) (link later : LinkTold) : Type 0 where
+pub record Goes (result : Option Step) (old new : Standing) (link later : LinkTold) : Type 0 where
   pub keeps : KeepsLink link later
-  pub cause : (files since : FilesTold) → IfSome result (λ step. HasFault step link later files since)
+  pub cause : (files since : FilesTold) → IfSome result (λ step. HasFault step (failing old.stage) link later files since)
   pub counts : CountsFor result link later
+  pub counted : Counted old link → Counted new later
 
 -- the same, over files
-pub record GoesOver (result : Option Step) (link later : LinkTold) (files since : FilesTold) : Type 0 where
+pub record GoesOver (result : Option Step) (old new : Standing) (link later : LinkTold) (files since : FilesTold) : Type 0 where
   pub keeps : Keeps link later files since
-  pub cause : IfSome result (λ step. HasFault step link later files since)
+  pub cause : IfSome result (λ step. HasFault step (failing old.stage) link later files since)
+  pub fails : Fails (failing old.stage) (failing new.stage) files.faults since.faults
   pub counts : CountsFor result link later
+  pub counted : Counted old link → Counted new later
+
+-- a connection is to come to this end once what was made is written
+pub record IsFailing (end : End) (c : Standing) : Type 0 where
+  pub fails : failing c.stage ≡ Some end
+  pub some : HasNoContent c.stage → 0 < c.left
 
 -- how a connection may end once its answers are written
 abbrev pub MayEnd : End → Standing → Type 0
-MayEnd Clean c = c.left ≡ 0
+MayEnd Clean c = (c.left ≡ 0) × HasNoContent c.stage
 MayEnd Cut c = ⊥
 MayEnd ReadFault c = ⊥
 MayEnd WriteFault c = ⊥
-MayEnd FileFault c = (0 < c.left) × IsReadyStage c.stage
-MayEnd NoMemory c = (0 < c.left) × IsReadyStage c.stage
+MayEnd FileFault c = IsFailing FileFault c
+MayEnd NoMemory c = IsFailing NoMemory c
 
 -- it ends so, or a step comes that its link is the cause of
-pub record EndsWith (end : End) (result : Step) (link later : LinkTold) : Type 0 where
+pub record EndsWith (end : End) (result : Step) (old new : Standing) (link later : LinkTold) : Type 0 where
   pub keeps : KeepsLink link later
-  pub cause : (files since : FilesTold) → HasFault (Done end) link later files since → HasFault result link later files since
+  pub cause : (files since : FilesTold) → HasFault (Done end) (failing old.stage) link later files since → HasFault result (failing old.stage) link later files since
   pub counts : CountsWaits result link later
+  pub counted : Counted old link → Counted new later
+
+-- a stage from which the connection comes to its next answer
+abbrev pub IsPlain : Stage → Type 0
+IsPlain unread = Unit {0}
+IsPlain short = Unit {0}
+IsPlain (reading a reader room) = Unit {0}
+IsPlain (refusing code) = Unit {0}
+IsPlain (ready a behind seen) = Unit {0}
+IsPlain (wanting a behind seen path) = ⊥
+IsPlain (sending at size) = ⊥
+IsPlain (unmade end) = ⊥
+IsPlain (broken at) = ⊥
+IsPlain finished = ⊥
+
+-- what a connection is to do next
+abbrev pub DutyOf : Duty → Standing → Type 0
+DutyOf Duties.Answer c = (0 < c.left) × IsPlain c.stage
+DutyOf Duties.Wait c = IsAsking c
+DutyOf Duties.Send c = (at size : ℕ) × (c.stage ≡ sending at size)
+DutyOf (Duties.End end) c = MayEnd end c
 
 -- how many steps are left until the connection closes, at most
 abbrev pub to_go : Standing → ℕ
@@ -62,6 +94,7 @@ to_go c = c.left * (2 * body_steps) + steps_left c.stage c.input
 abbrev pub stage_kept : Step → Stage → Stage
 stage_kept WantRead stage = stage
 stage_kept WantWrite stage = stage
+stage_kept WantFile stage = stage
 stage_kept (Done end) stage = finished
 
 -- where it stands behind a read

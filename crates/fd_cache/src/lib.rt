@@ -1,0 +1,6 @@
+//! A stub.
+#![tactic(auto)]
+
+mod lease;
+
+pub use lease::Lease;
