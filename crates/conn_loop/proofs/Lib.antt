@@ -1,14 +1,5 @@
 pub mod AnswerLemmas
-pub mod BodyLemmas
 pub mod BoundLemmas
 pub mod GrowthLemmas
-pub mod LookLemmas
-pub mod ReplyLemmas
-pub mod StandingLemmas
 pub mod StatusLemmas
-pub mod StepLemmas
-pub mod ToldLemmas
 pub mod VerdictLemmas
-pub mod ViewLemmas
-pub mod WindowLemmas
-pub mod WritingLemmas

@@ -8,5 +8,6 @@ pub mod Replying
 pub mod Stages
 pub mod Standing
 pub mod Steps
+pub mod Supplies
 pub mod Turns
 pub mod Writing

@@ -1,7 +1,8 @@
 -- Inner: what the steps of a connection do to what it holds and to what is told of its link.
-use Rattle.std.specs.Prelude.{◌≡◌, ℕ, ◌+◌, ◌<◌, ◌≤◌, Bool, true, false, List, [], ◌∷◌, ◌++◌, length, take, drop, Option, IfSome, IsSomeAnd, if◌then◌else◌, min, nat_lt}
+use Rattle.std.specs.Prelude.{◌≡◌, ℕ, ◌+◌, ◌<◌, ◌≤◌, Bool, true, false, List, [], ◌∷◌, ◌++◌, length, take, drop, Option, Some, None, IfSome, IsSomeAnd, if◌then◌else◌, min, nat_lt}
 use Rattle.outside.specs.Causes.{LinkTold, Read}
 use Rattle.outside.specs.Counts.{full}
+use Rattle.outside.specs.FileCauses.{FilesTold, ReadPart}
 use Rattle.outside.specs.Folder.{Folder, file_at}
 use Rattle.outside.specs.declared.link.ReadOut.{ReadOut}
 use Rattle.outside.specs.declared.link.ReadOut.TheVariants.{Got, End, NotYet, Failed}
@@ -23,7 +24,9 @@ use Rattle.conn_loop.specs.declared.writing.WriteEnd.{WriteEnd}
 use Rattle.conn_loop.specs.declared.writing.WriteEnd.TheVariants.{All, Waits, Fails}
 use Rattle.conn_loop.specs.Answers.{closes, last_word}
 use Rattle.conn_loop.specs.Replying.{request_of}
-use Rattle.conn_loop.specs.Stages.{Stage, unread, ready, wanting, sending}
+use Rattle.conn_loop.specs.declared.phase.Phase.{Phase}
+use Rattle.conn_loop.specs.Phases.{IsKept, HasLease, over_in, stage_in}
+use Rattle.conn_loop.specs.Stages.{Stage, unread, ready, wanting, sending, broken}
 use Rattle.conn_loop.specs.Standing.{Standing}
 use Rattle.conn_loop.specs.Writing.{Writes}
 
@@ -148,3 +151,51 @@ pub record Responds (response : Response) (moment : ℕ) (old new : Standing) : 
     moments = old.moments ++ moment ∷ [];
     left = if closes a left then 0 else left;
   }
+
+-- a content that is sent has this size
+abbrev pub SendsSize : Content → Option ℕ → Type 0
+SendsSize kept.None lease = Unit {0}
+SendsSize kept.Empty lease = Unit {0}
+SendsSize (kept.File size false) lease = Unit {0}
+SendsSize (kept.File size true) lease = lease ≡ Some size
+
+-- the phase behind a head with this content
+abbrev pub MakesHead : Content → Phase → Type 0
+MakesHead content phase =
+    ((input path : List ℕ) → stage_in input path phase ≡ stage_behind content)
+    × ((input : List ℕ) (left : ℕ) → IsKept input left phase)
+    × (over_in phase ≡ None)
+    × ((size : Option ℕ) → (SendsSize content size) → HasLease phase size)
+
+-- where a connection stands once a part was read of a file of this size, from this place on
+abbrev pub stage_read : PartOut → (at size : ℕ) → Stage
+stage_read (Parts.Got n) at size = if nat_lt (at + n) size then sending (at + n) size else unread
+stage_read Parts.Failed at size = broken at
+
+-- a part lies within the file
+abbrev pub IsPartWithin : PartOut → (at size : ℕ) → Type 0
+IsPartWithin (Parts.Got n) at size = at + n ≤ size
+IsPartWithin Parts.Failed at size = Unit {0}
+
+-- the phase once a part was read
+abbrev pub HasRead : PartOut → (at size : ℕ) → Phase → Type 0
+HasRead part at size phase =
+    ((input path : List ℕ) → stage_in input path phase ≡ stage_read part at size)
+    × ((input : List ℕ) (left : ℕ) → IsKept input left phase)
+    × (over_in phase ≡ None)
+    × ((lease : Option ℕ) → lease ≡ Some size → HasLease phase lease)
+
+-- a part of the content was read, or the file failed
+pub record ReadsPart (folder : Option Folder) (old new : Standing) (files since : FilesTold) : Type 0 where
+  pub at : ℕ
+  pub size : ℕ
+  pub was : old.stage ≡ sending at size
+  pub inside : at < size
+  pub path : List ℕ
+  pub lent : old.lease ≡ Some path
+  pub most : ℕ
+  pub fits : at + most ≤ size
+  pub out : PartOut
+  pub takes : TakesPart folder path at most out old.pending new.pending
+  pub read : ReadPart out files since
+  pub same : new ≡ record old { stage = stage_read out at size; pending = new.pending }

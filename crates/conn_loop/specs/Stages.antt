@@ -123,7 +123,7 @@ IsBetween (wanting a behind seen path) = ⊥
 IsBetween (sending at size) = ⊥
 IsBetween (unmade end) = ⊥
 IsBetween (broken at) = ⊥
-IsBetween finished = Unit {0}
+IsBetween finished = ⊥
 
 -- all of a body that came was read
 abbrev pub IsReadUp : Stage → List ℕ → Type 0
@@ -241,3 +241,24 @@ failing finished = None
 -- a connection that fails failed before, or a file failed just now
 abbrev pub Fails : (old new : Option End) → (faults since : ℕ) → Type 0
 Fails old new faults since = (new ≡ old) ⊎ ((new ≡ Some FileFault) × Rises faults since)
+
+-- what was seen last is a file
+abbrev pub is_found : Seen → Bool
+is_found Nothing = false
+is_found (FirstFound size mtime) = true
+is_found FirstAbsent = false
+is_found (SecondFound size mtime) = true
+is_found SecondAbsent = false
+
+-- a connection that stands there needs the file that is lent to it
+abbrev pub needs_file : Stage → Bool
+needs_file unread = false
+needs_file short = false
+needs_file (reading a reader room) = false
+needs_file (refusing code) = false
+needs_file (ready a behind seen) = is_found seen
+needs_file (wanting a behind seen path) = false
+needs_file (sending at size) = true
+needs_file (unmade end) = false
+needs_file (broken at) = true
+needs_file finished = false

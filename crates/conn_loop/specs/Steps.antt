@@ -1,5 +1,5 @@
 -- Inner: how far a part of a call brings a connection: it goes on, or a step is answered.
-use Rattle.std.specs.Prelude.{◌≡◌, ℕ, ◌+◌, ◌*◌, ◌<◌, List, Bool, Option, Some, None, IfSome}
+use Rattle.std.specs.Prelude.{◌≡◌, ◌≢◌, ◌↔◌, ℕ, ◌+◌, ◌*◌, ◌<◌, List, Bool, Option, Some, None, IfSome}
 use Rattle.outside.specs.Causes.{LinkTold, KeepsLink}
 use Rattle.outside.specs.FileCauses.{FilesTold}
 use Rattle.conn_loop.specs.declared.step.Step.{Step}
@@ -12,9 +12,16 @@ use Rattle.conn_loop.specs.Stages.{Stage, unread, short, reading, refusing, read
 use Rattle.conn_loop.specs.declared.step.End.{End}
 use Rattle.conn_loop.specs.declared.step.End.TheVariants.{Clean, Cut, ReadFault, WriteFault, FileFault, NoMemory}
 use Rattle.conn_loop.specs.Causes.{HasFault, CountsWaits, Keeps}
+use Rattle.app_trait.specs.Moves.{Moves}
+use Rattle.app_trait.specs.Shown.{Fits}
+use Rattle.app_trait.specs.declared.request.Seen.{Seen}
+use Rattle.app_trait.specs.declared.request.Seen.TheVariants.{Nothing}
+use Rattle.warp_request.specs.Verdict.{Asked}
+use Rattle.warp_response.specs.declared.response.Response.{Response}
+use Rattle.warp_response.specs.Reply.{IsSendable}
 use Rattle.conn_loop.specs.Ends.{WhereTold}
 use Rattle.conn_loop.specs.Replying.{Serving}
-use Rattle.conn_loop.specs.Standing.{Standing, Accounts, Counted, HoldsAt, IsAsking}
+use Rattle.conn_loop.specs.Standing.{Standing, Accounts, AsksFor, Counted, HoldsAt, IsAsking}
 
 -- what was taken is accounted for; the connection goes on, or answers a step that says so
 pub record Comes (result : Option Step) (serving : Serving) (c : Standing) (taken sent : List ℕ) (ended : Option Bool) : Type 0 where
@@ -36,6 +43,8 @@ pub record Goes (result : Option Step) (old new : Standing) (link later : LinkTo
   pub cause : (files since : FilesTold) → IfSome result (λ step. HasFault step (failing old.stage) link later files since)
   pub counts : CountsFor result link later
   pub counted : Counted old link → Counted new later
+  pub stays : failing new.stage ≡ failing old.stage
+  pub file : result ≡ Some WantFile → IsAsking new
 
 -- the same, over files
 pub record GoesOver (result : Option Step) (old new : Standing) (link later : LinkTold) (files since : FilesTold) : Type 0 where
@@ -44,6 +53,7 @@ pub record GoesOver (result : Option Step) (old new : Standing) (link later : Li
   pub fails : Fails (failing old.stage) (failing new.stage) files.faults since.faults
   pub counts : CountsFor result link later
   pub counted : Counted old link → Counted new later
+  pub file : result ≡ Some WantFile → IsAsking new
 
 -- a connection is to come to this end once what was made is written
 pub record IsFailing (end : End) (c : Standing) : Type 0 where
@@ -65,6 +75,15 @@ pub record EndsWith (end : End) (result : Step) (old new : Standing) (link later
   pub cause : (files since : FilesTold) → HasFault (Done end) (failing old.stage) link later files since → HasFault result (failing old.stage) link later files since
   pub counts : CountsWaits result link later
   pub counted : Counted old link → Counted new later
+  pub stays : failing new.stage ≡ failing old.stage
+  pub file : result ≢ WantFile
+
+-- where a part of a call leaves a connection: it isn't over, it asks for what the application looks for, and it asks for a file
+-- exactly where that is answered
+pub record Proceeds (moves : Moves) (result : Option Step) (old new : Standing) : Type 0 where
+  pub over : new.over ≡ old.over
+  pub asks : AsksFor moves new.stage
+  pub file : (result ≡ Some WantFile) ↔ IsAsking new
 
 -- a stage from which the connection comes to its next answer
 abbrev pub IsPlain : Stage → Type 0
@@ -79,12 +98,46 @@ IsPlain (unmade end) = ⊥
 IsPlain (broken at) = ⊥
 IsPlain finished = ⊥
 
+-- a stage in which the body of a request was begun: it is read on, or refused, or the request is whole and nothing was looked for
+abbrev pub IsBegun : Stage → Type 0
+IsBegun unread = ⊥
+IsBegun short = ⊥
+IsBegun (reading a reader room) = Unit {0}
+IsBegun (refusing code) = Unit {0}
+IsBegun (ready a behind seen) = seen ≡ Nothing
+IsBegun (wanting a behind seen path) = ⊥
+IsBegun (sending at size) = ⊥
+IsBegun (unmade end) = ⊥
+IsBegun (broken at) = ⊥
+IsBegun finished = ⊥
+
+-- the content of a file is sent
+abbrev pub IsSendingStage : Stage → Type 0
+IsSendingStage stage = (at size : ℕ) × (stage ≡ sending at size)
+
+-- a part of the content of a file was read, or wasn't
+abbrev pub IsSendingOut : Stage → Type 0
+IsSendingOut unread = Unit {0}
+IsSendingOut short = ⊥
+IsSendingOut (reading a reader room) = ⊥
+IsSendingOut (refusing code) = ⊥
+IsSendingOut (ready a behind seen) = ⊥
+IsSendingOut (wanting a behind seen path) = ⊥
+IsSendingOut (sending at size) = Unit {0}
+IsSendingOut (unmade end) = ⊥
+IsSendingOut (broken at) = Unit {0}
+IsSendingOut finished = ⊥
+
+-- the request that is whole can be answered by this response
+abbrev pub CanSend : Response → Stage → Type 0
+CanSend response stage = (a : Asked) × (behind : ℕ) × (seen : Seen) × (stage ≡ ready a behind seen) × Fits a.target seen response × IsSendable a.target response
+
 -- what a connection is to do next
 abbrev pub DutyOf : Duty → Standing → Type 0
 DutyOf Duties.Answer c = (0 < c.left) × IsPlain c.stage
 DutyOf Duties.Wait c = IsAsking c
-DutyOf Duties.Send c = (at size : ℕ) × (c.stage ≡ sending at size)
-DutyOf (Duties.End end) c = MayEnd end c
+DutyOf Duties.Send c = IsSendingStage c.stage
+DutyOf (Duties.End end) c = MayEnd end c × ¬ IsAsking c
 
 -- how many steps are left until the connection closes, at most
 abbrev pub to_go : Standing → ℕ

@@ -1,11 +1,11 @@
 //! One connection, brought as far as the link and the files let it go.
-ghost use Rattle.std.specs.Prelude.{◌≡◌, ◌≤◌, ◌<◌, ◌+◌, ◌↔◌, ℕ, IsTrue, Bool, [], Option, Some, None, IfOk, IfSome, IfNone};
+ghost use Rattle.std.specs.Prelude.{◌≡◌, ◌≤◌, ◌<◌, ◌+◌, ◌↔◌, ℕ, IsTrue, [], Option, Some, None, IfOk, IfSome, IfNone, length};
 ghost use Rattle.outside.specs.Causes.{IsFresh, LinkTold};
 ghost use Rattle.app_trait.specs.Moves.{Moves};
 ghost use Rattle.conn_loop.specs.Causes.{IsCaused, CountsWaits, Clocked, Keeps, end_of};
-ghost use Rattle.conn_loop.specs.Replying.{Serving, serving_over};
+ghost use Rattle.conn_loop.specs.Replying.{serving_over};
 ghost use Rattle.conn_loop.specs.Standing.{Represents, StepImpliesFor, AsksFor, Counted, IsAsking, at_first};
-ghost use Rattle.conn_loop.specs.Steps.{ComesFor, DutyOf, GoesOver, stage_kept, to_go};
+ghost use Rattle.conn_loop.specs.Steps.{ComesFor, DutyOf, Goes, GoesOver, IsPlain, Proceeds, stage_kept, to_go};
 
 mod answering;
 mod lending;
@@ -164,8 +164,7 @@ impl<F: Files> Conn<F> {
         requires stands { ComesFor None (serving_over (A.moves app.now) F.folder) self.old (L.told link.old) }
         requires asks { AsksFor (A.moves app.now) self.old.stage }
         ensures stands { ComesFor (Some result) (serving_over (A.moves app.now) F.folder) self.new (L.told link.new) }
-        ensures asks { AsksFor (A.moves app.now) self.new.stage × ((result ≡ Step.WantFile) ↔ IsAsking self.new) }
-        ensures running { self.new.over ≡ None }
+        ensures proceeds { Proceeds (A.moves app.now) (Some result) self.old self.new }
         ensures nearer { to_go self.new ≤ to_go self.old }
         ensures clocked { Clocked self.old self.new (C.told clock.old) (C.told clock.new) }
         ensures goes { GoesOver (Some result) self.old self.new (L.told link.old) (L.told link.new) (F.told files.old) (F.told files.new) }
@@ -190,15 +189,11 @@ impl<F: Files> Conn<F> {
         requires asks { AsksFor (A.moves app.now) self.old.stage }
         ensures stands { ComesFor None (serving_over (A.moves app.now) F.folder) self.old (L.told link.old)
             → ComesFor result (serving_over (A.moves app.now) F.folder) self.new (L.told link.new) }
-        ensures asks { AsksFor (A.moves app.now) self.new.stage × ((result ≡ Some Step.WantFile) ↔ (IsAsking self.new × (result ≡ Some Step.WantFile))) }
-        ensures running { self.new.over ≡ None }
+        ensures proceeds { Proceeds (A.moves app.now) result self.old self.new }
         ensures nearer { (to_go self.new ≤ to_go self.old) × IfNone result (to_go self.new < to_go self.old) }
         ensures clocked { Clocked self.old self.new (C.told clock.old) (C.told clock.new) }
         ensures goes { GoesOver result self.old self.new (L.told link.old) (L.told link.new) (F.told files.old) (F.told files.new) }
     {
-        if let Some(step) = self.make_room(link) {
-            return Some(step);
-        }
         match self.duty() {
             Duty::Answer => self.answer_next(link, app, clock, scratch),
             Duty::Wait => Some(Step::WantFile),
@@ -233,14 +228,16 @@ impl<F: Files> Conn<F> {
     ) -> Option<Step>
         requires some { 0 < self.old.left }
         requires plain { IsPlain self.old.stage }
-        requires room { length self.old.pending < 16384 }
         ensures stands { ComesFor None (serving_over (A.moves app.now) F.folder) self.old (L.told link.old)
             → ComesFor result (serving_over (A.moves app.now) F.folder) self.new (L.told link.new) }
-        ensures asks { IsAnswering (A.moves app.now) result self.old self.new }
+        ensures proceeds { Proceeds (A.moves app.now) result self.old self.new }
         ensures nearer { (to_go self.new ≤ to_go self.old) × IfNone result (to_go self.new < to_go self.old) }
         ensures clocked { Clocked self.old self.new (C.told clock.old) (C.told clock.new) }
         ensures goes { Goes result self.old self.new (L.told link.old) (L.told link.new) }
     {
+        if let Some(step) = self.make_room(link) {
+            return Some(step);
+        }
         match self.look() {
             Ahead::Unread => {
                 self.judge(scratch);

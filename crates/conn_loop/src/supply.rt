@@ -3,11 +3,11 @@
 use fd_cache::Lease;
 use outside::Files;
 
-/// What was found at the path that a connection asked for.
+/// What was found at the path that a connection asked for, where files are lent by leases `X`.
 #[derive(Drop)]
-pub enum Supply<F: Files> {
+pub enum Supply<X> {
     /// A file, which is lent to the connection until `Conn::spent_lease` or `Conn::finish` gives it back.
-    Leased(Lease<F>),
+    Leased(X),
     /// No file is there.
     Absent,
     /// The files failed.

@@ -1,21 +1,10 @@
-// Whether a request was answered, what its answer says of the connection, and the moment that is noted for it.
+//! Whether an answer closes the connection, and the moment that is noted for it.
 ghost use Rattle.std.specs.Prelude.{◌≡◌, ◌≤◌, ◌<◌, ◌++◌, ◌∷◌, ℕ, List, [], if◌then◌else◌, vec_len, vec_capacity};
 ghost use Rattle.conn_loop.specs.Answers.{closes as closes_of, last_word as last_word_of};
 ghost use Rattle.conn_loop.specs.Heads.{asked_in};
 
 use warp_request::HeadInfo;
 use warp_response::LastWord;
-
-/// Whether a request was answered.
-#[derive(Clone, Copy, PartialEq, Eq, Debug)]
-pub(crate) enum Answered {
-    /// Its answer stands behind those before it.
-    Made,
-    /// The files failed.
-    Failed,
-    /// Memory was wanted.
-    NoMemory,
-}
 
 /// Whether the answer closes the connection, where so many final answers may follow.
 #[tactic(auto, unfolding(crate::specs::Answers::closes))]

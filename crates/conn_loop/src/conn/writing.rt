@@ -1,0 +1,83 @@
+//! How a connection writes what was made, and ends.
+ghost use Rattle.std.specs.Prelude.{◌≡◌, ◌<◌, [], Option, Some, None, IfNone, IsSome, length};
+ghost use Rattle.conn_loop.specs.Moves.{Sends};
+ghost use Rattle.conn_loop.specs.Replying.{Serving};
+ghost use Rattle.conn_loop.specs.Steps.{ComesFor, Goes, MayEnd, EndsWith};
+
+use super::Conn;
+use crate::limits::PIECE;
+use crate::step::{End, Step};
+use crate::writing::{WriteEnd, write_out};
+use outside::{Files, Link};
+use warp_response::Response;
+
+impl<F: Files> Conn<F> {
+    /// Writes what was made, and then ends the connection. The caller owes that this is how it ends.
+    pub(super) fn end<L: Link>(&mut self, link: &mut L, end: End) -> Step
+        requires { MayEnd end self.old }
+        ensures stands { (serving : Option Serving) → ComesFor None serving self.old (L.told link.old) → ComesFor (Some result) serving self.new (L.told link.new) }
+        ensures same { self.new ≡ record self.old { pending = self.new.pending; bytes = self.new.bytes; waits = self.new.waits } }
+        ensures goes { EndsWith end result self.old self.new (L.told link.old) (L.told link.new) }
+    {
+        match self.write_due(link) {
+            None => Step::Done(end),
+            Some(step) => step,
+        }
+    }
+
+    /// Writes what was made, where it must leave before another answer is begun. `None` comes where one may.
+    pub(super) fn make_room<L: Link>(&mut self, link: &mut L) -> Option<Step>
+        ensures stands { (serving : Option Serving) → ComesFor None serving self.old (L.told link.old) → ComesFor result serving self.new (L.told link.new) }
+        ensures room { IfNone result (length self.new.pending < 16384) }
+        ensures same { self.new ≡ record self.old { pending = self.new.pending; bytes = self.new.bytes; waits = self.new.waits } }
+        ensures goes { Goes result self.old self.new (L.told link.old) (L.told link.new) }
+    {
+        if self.output.bytes().len() < PIECE {
+            None
+        } else {
+            self.write_due(link)
+        }
+    }
+
+    /// Writes what was made before the head of this response is, if it may be a long one: one with a Location.
+    pub(super) fn make_way<L: Link>(&mut self, link: &mut L, response: &Response) -> Option<Step>
+        requires room { length self.old.pending < 16384 }
+        ensures stands { (serving : Option Serving) → ComesFor None serving self.old (L.told link.old) → ComesFor result serving self.new (L.told link.new) }
+        ensures room { IfNone result ((length self.new.pending < 16384) × (IsSome response.now.place → self.new.pending ≡ [])) }
+        ensures same { self.new ≡ record self.old { pending = self.new.pending; bytes = self.new.bytes; waits = self.new.waits } }
+        ensures goes { Goes result self.old self.new (L.told link.old) (L.told link.new) }
+    {
+        if response.place.is_some() {
+            self.write_due(link)
+        } else {
+            None
+        }
+    }
+
+    /// Writes what was made. `None` comes where all of it is written.
+    pub(super) fn write_due<L: Link>(&mut self, link: &mut L) -> Option<Step>
+        ensures stands { (serving : Option Serving) → ComesFor None serving self.old (L.told link.old) → ComesFor result serving self.new (L.told link.new) }
+        ensures done { IfNone result (self.new.pending ≡ []) }
+        ensures same { self.new ≡ record self.old { pending = self.new.pending; bytes = self.new.bytes; waits = self.new.waits } }
+        ensures goes { Goes result self.old self.new (L.told link.old) (L.told link.new) }
+    {
+        match self.flush(link) {
+            WriteEnd::All => None,
+            WriteEnd::Waits => Some(Step::WantWrite),
+            WriteEnd::Fails => Some(Step::Done(End::WriteFault)),
+        }
+    }
+
+    /// Writes what was made, and counts what was written and whether the link must be waited for.
+    fn flush<L: Link>(&mut self, link: &mut L) -> WriteEnd
+        ensures { Sends result self.old self.new (L.told link.old) (L.told link.new) }
+    {
+        let (n, end) = write_out(link, self.output.bytes());
+        self.output.skip(n);
+        self.bytes = self.bytes.saturating_add(n as u64);
+        if let WriteEnd::Waits = end {
+            self.waits = self.waits.saturating_add(1);
+        }
+        end
+    }
+}
