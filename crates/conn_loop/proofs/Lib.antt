@@ -1,5 +1,15 @@
 pub mod AnswerLemmas
+pub mod BodyLemmas
 pub mod BoundLemmas
+pub mod CauseLemmas
 pub mod GrowthLemmas
+pub mod LookLemmas
+pub mod MeasureLemmas
+pub mod StageLemmas
+pub mod StandingLemmas
 pub mod StatusLemmas
+pub mod StepLemmas
+pub mod ToldLemmas
 pub mod VerdictLemmas
+pub mod WindowLemmas
+pub mod WritingLemmas

@@ -8,7 +8,7 @@ use Rattle.conn_loop.specs.declared.step.Step.{Step}
 use Rattle.conn_loop.specs.declared.step.Step.TheVariants.{WantRead, WantWrite, WantFile, Done}
 use Rattle.conn_loop.specs.declared.step.End.{End}
 use Rattle.conn_loop.specs.declared.step.End.TheVariants.{Clean, Cut, ReadFault, WriteFault, FileFault, NoMemory}
-use Rattle.conn_loop.specs.Stages.{failing, Fails}
+use Rattle.conn_loop.specs.Stages.{failing, FailsBy}
 use Rattle.conn_loop.specs.Standing.{Standing, Counted, IsAsking}
 
 -- A fault is answered only where the count of its own kind rose: that of the link in this call, that of the files in this call
@@ -27,7 +27,7 @@ HasFault WantFile before link later files since = Unit {0}
 -- what a call that was made before the connection was over answers, and why it may fail from then on
 pub record IsCaused (result : Step) (old new : Standing) (link later : LinkTold) (files since : FilesTold) : Type 0 where
   pub fault : HasFault result (failing old.stage) link later files since
-  pub fails : IfNone new.over (Fails (failing old.stage) (failing new.stage) files.faults since.faults)
+  pub fails : IfNone new.over (FailsBy (failing old.stage) (failing new.stage) files.faults since.faults)
 
 -- one wait of the direction that is wanted was counted, and no other
 abbrev pub CountsWaits : Step → (link later : LinkTold) → Type 0

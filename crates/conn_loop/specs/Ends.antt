@@ -4,6 +4,7 @@ use Rattle.outside.specs.Causes.{LinkTold}
 use Rattle.warp_request.specs.Lines.{skip_empty}
 use Rattle.warp_request.specs.Verdict.{Asked}
 use Rattle.warp_response.specs.Reply.{sent_bytes}
+use Rattle.warp_response.specs.Text.{interim_text}
 use Rattle.conn_loop.specs.declared.step.Step.{Step}
 use Rattle.conn_loop.specs.declared.step.Step.TheVariants.{WantRead, WantWrite, WantFile, Done}
 use Rattle.conn_loop.specs.declared.step.End.TheVariants.{Clean, Cut, ReadFault, WriteFault, FileFault, NoMemory}
@@ -32,11 +33,13 @@ pub record IsShort (reply : Replying) (moments taken sent : List ℕ) : Type 0 w
   pub sent_made : sent ≡ answers_of reply taken moments
   pub fewer : length moments < finals_of taken
 
--- every answer that was made was sent but for the end of the last one's content
+-- every answer that was made was sent but for the end of the last one's content, and maybe an interim answer behind it
 pub record IsBroken (reply : Replying) (moments taken sent : List ℕ) : Type 0 where
   pub a : Asked
   pub at : ℕ
-  pub begins : answers_of reply taken moments ≡ sent ++ drop at (sent_bytes (reply a).content)
+  pub behind : List ℕ
+  pub little : (behind ≡ []) ⊎ (behind ≡ interim_text)
+  pub begins : answers_of reply taken moments ≡ sent ++ (drop at (sent_bytes (reply a).content) ++ behind)
   pub some : 0 < length (drop at (sent_bytes (reply a).content))
 
 -- the link has met the end of its input, where it tells so

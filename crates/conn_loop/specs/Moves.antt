@@ -1,5 +1,5 @@
 -- Inner: what the steps of a connection do to what it holds and to what is told of its link.
-use Rattle.std.specs.Prelude.{◌≡◌, ℕ, ◌+◌, ◌<◌, ◌≤◌, Bool, true, false, List, [], ◌∷◌, ◌++◌, length, take, drop, Option, Some, None, IfSome, IsSomeAnd, if◌then◌else◌, min, nat_lt}
+use Rattle.std.specs.Prelude.{◌≡◌, ℕ, ◌+◌, ◌^◌, ◌<◌, ◌≤◌, Bool, true, false, List, [], ◌∷◌, ◌++◌, length, take, drop, Option, Some, None, IfSome, IsSomeAnd, if◌then◌else◌, min, nat_lt}
 use Rattle.outside.specs.Causes.{LinkTold, Read}
 use Rattle.outside.specs.Counts.{full}
 use Rattle.outside.specs.FileCauses.{FilesTold, ReadPart}
@@ -199,3 +199,9 @@ pub record ReadsPart (folder : Option Folder) (old new : Standing) (files since 
   pub takes : TakesPart folder path at most out old.pending new.pending
   pub read : ReadPart out files since
   pub same : new ≡ record old { stage = stage_read out at size; pending = new.pending }
+
+-- the size of a content is a number of its type
+abbrev pub SizeFits : Content → Type 0
+SizeFits kept.None = Unit {0}
+SizeFits kept.Empty = Unit {0}
+SizeFits (kept.File size send) = size < 2 ^ 64

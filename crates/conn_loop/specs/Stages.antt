@@ -17,7 +17,7 @@ use Rattle.warp_request.specs.Verdict.{Asked, more, asked}
 use Rattle.warp_response.specs.Reply.{Reply}
 use Rattle.warp_request.specs.declared.limits.TheConstants.{HEAD_LIMIT}
 use Rattle.conn_loop.specs.declared.bodies.TheConstants.{CHUNKED_LIMIT}
-use Rattle.conn_loop.specs.declared.buffer.TheConstants.{ROOM}
+use Rattle.conn_loop.specs.declared.limits.TheConstants.{ROOM}
 use Rattle.conn_loop.specs.Answers.{answers_within, answers_behind}
 use Rattle.conn_loop.specs.Turns.{turn_of}
 use Rattle.conn_loop.specs.Turns as turn
@@ -239,8 +239,8 @@ failing (broken at) = Some FileFault
 failing finished = None
 
 -- a connection that fails failed before, or a file failed just now
-abbrev pub Fails : (old new : Option End) → (faults since : ℕ) → Type 0
-Fails old new faults since = (new ≡ old) ⊎ ((new ≡ Some FileFault) × Rises faults since)
+abbrev pub FailsBy : (old new : Option End) → (faults since : ℕ) → Type 0
+FailsBy old new faults since = (new ≡ old) ⊎ ((new ≡ Some FileFault) × Rises faults since)
 
 -- what was seen last is a file
 abbrev pub is_found : Seen → Bool

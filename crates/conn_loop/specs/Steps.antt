@@ -8,12 +8,15 @@ use Rattle.conn_loop.specs.declared.phase.Duty.{Duty}
 use Rattle.conn_loop.specs.declared.phase.Duty.TheVariants as Duties
 use Rattle.outside.specs.declared.link.ReadOut.{ReadOut}
 use Rattle.outside.specs.declared.link.ReadOut.TheVariants as read
-use Rattle.conn_loop.specs.Stages.{Stage, unread, short, reading, refusing, ready, wanting, sending, unmade, broken, finished, body_steps, grown, steps_left, failing, Fails, HasNoContent}
+use Rattle.conn_loop.specs.Stages.{Stage, unread, short, reading, refusing, ready, wanting, sending, unmade, broken, finished, body_steps, grown, steps_left, failing, FailsBy, HasNoContent}
 use Rattle.conn_loop.specs.declared.step.End.{End}
 use Rattle.conn_loop.specs.declared.step.End.TheVariants.{Clean, Cut, ReadFault, WriteFault, FileFault, NoMemory}
 use Rattle.conn_loop.specs.Causes.{HasFault, CountsWaits, Keeps}
+use Rattle.conn_loop.specs.Moves.{SizeFits}
 use Rattle.app_trait.specs.Moves.{Moves}
 use Rattle.app_trait.specs.Shown.{Fits}
+use Rattle.app_trait.specs.declared.app.Move.{Move}
+use Rattle.app_trait.specs.declared.app.Move.TheVariants.{Look, Answer}
 use Rattle.app_trait.specs.declared.request.Seen.{Seen}
 use Rattle.app_trait.specs.declared.request.Seen.TheVariants.{Nothing}
 use Rattle.warp_request.specs.Verdict.{Asked}
@@ -50,7 +53,7 @@ pub record Goes (result : Option Step) (old new : Standing) (link later : LinkTo
 pub record GoesOver (result : Option Step) (old new : Standing) (link later : LinkTold) (files since : FilesTold) : Type 0 where
   pub keeps : Keeps link later files since
   pub cause : IfSome result (λ step. HasFault step (failing old.stage) link later files since)
-  pub fails : Fails (failing old.stage) (failing new.stage) files.faults since.faults
+  pub fails : FailsBy (failing old.stage) (failing new.stage) files.faults since.faults
   pub counts : CountsFor result link later
   pub counted : Counted old link → Counted new later
   pub file : result ≡ Some WantFile → IsAsking new
@@ -131,6 +134,16 @@ IsSendingOut finished = ⊥
 -- the request that is whole can be answered by this response
 abbrev pub CanSend : Response → Stage → Type 0
 CanSend response stage = (a : Asked) × (behind : ℕ) × (seen : Seen) × (stage ≡ ready a behind seen) × Fits a.target seen response × IsSendable a.target response
+
+-- the size of a content that an application answers is a number of its type
+abbrev pub FitsSize : Move → Type 0
+FitsSize Look = Unit {0}
+FitsSize (Answer response) = SizeFits response.content
+
+-- what an application answers can be sent
+abbrev pub SendableMove : List ℕ → Move → Type 0
+SendableMove target Look = Unit {0}
+SendableMove target (Answer response) = IsSendable target response
 
 -- what a connection is to do next
 abbrev pub DutyOf : Duty → Standing → Type 0

@@ -81,10 +81,8 @@ impl Buffer {
         requires { length self.old + length piece.now ≤ ROOM }
         ensures { self.new ≡ self.old ++ piece.now }
     {
-        let start = make_room(&mut self.room, self.start, self.end, piece.len());
-        let end = start + (self.end - self.start);
-        write_at(&mut self.room, end, piece);
-        self.end = end + piece.len();
+        let start = add_behind(&mut self.room, self.start, self.end, piece);
+        self.end = start + (self.end - self.start) + piece.len();
         self.start = start;
     }
 
@@ -93,18 +91,21 @@ impl Buffer {
         requires { length self.old < ROOM }
         ensures { Takes result self.old self.new (L.told link.old) (L.told link.new) }
     {
-        let more = FIRST_ROOM.min(ROOM - (self.end - self.start));
-        let start = make_room(&mut self.room, self.start, self.end, more);
-        let end = start + (self.end - self.start);
-        let out = read_behind(link, &mut self.room, end);
-        self.end = end + got_len(out);
+        let (start, out) = read_behind(link, &mut self.room, self.start, self.end);
+        self.end = start + (self.end - self.start) + got_len(out);
         self.start = start;
         out
     }
 
     /// Reads at most `n` bytes of a file from place `at` on behind the bytes. The caller owes that they fit, and that the
     /// file has that place.
-    pub(crate) fn part<F: Files>(&mut self, files: &mut F, lease: &mut Lease<F>, at: u64, n: usize) -> PartOut
+    pub(crate) fn part<F: Files>(
+        &mut self,
+        files: &mut F,
+        lease: &mut Lease<F>,
+        at: u64,
+        n: usize,
+    ) -> PartOut
         requires some { 0 < n }
         requires fits { length self.old + n ≤ ROOM }
         requires inside { at < lease.old.size }
@@ -114,9 +115,9 @@ impl Buffer {
         ensures read { ReadPart result (F.told files.old) (F.told files.new) }
     {
         let start = make_room(&mut self.room, self.start, self.end, n);
-        let end = start + (self.end - self.start);
-        let out = part_behind(files, lease, at, &mut self.room, end, n);
-        self.end = end + part_len(out);
+        let long = self.end - self.start;
+        let out = part_behind(files, lease, at, &mut self.room, start + long, n);
+        self.end = start + long + part_len(out);
         self.start = start;
         out
     }
@@ -164,6 +165,21 @@ fn widen(room: &mut Vec<u8>, long: usize)
 /// Bytes that mean nothing, with which a room is widened.
 static EMPTY: [u8; ROOM] = [0; ROOM];
 
+/// Puts a piece behind the bytes from `start` to `end`. The result is where these start afterwards.
+fn add_behind(room: &mut Vec<u8>, start: usize, end: usize, piece: &[u8]) -> usize
+    requires order { start ≤ end }
+    requires inside { end ≤ vec_len room.old }
+    requires fits { (end - start) + length piece.now ≤ ROOM }
+    requires bounded { (vec_len room.old ≤ ROOM) × (ROOM ≤ vec_capacity room.old) }
+    ensures is { take (end - start + length piece.now) (drop result room.new.items) ≡ take (end - start) (drop start room.old.items) ++ piece.now }
+    ensures fits { result + (end - start) + length piece.now ≤ vec_len room.new }
+    ensures bounded { (vec_len room.new ≤ ROOM) × (ROOM ≤ vec_capacity room.new) }
+{
+    let start_now = make_room(room, start, end, piece.len());
+    write_at(room, start_now + (end - start), piece);
+    start_now
+}
+
 /// Writes a piece into the room from `at` on.
 fn write_at(room: &mut [u8], at: usize, piece: &[u8])
     requires { at + length piece.now ≤ length room.old }
@@ -171,6 +187,32 @@ fn write_at(room: &mut [u8], at: usize, piece: &[u8])
     ensures piece { take (length piece.now) (drop at room.new) ≡ piece.now }
 {
     room[at..at + piece.len()].copy_from_slice(piece);
+}
+
+/// Reads from the link behind the bytes from `start` to `end`. The result is where these start afterwards.
+fn read_behind<L: Link>(link: &mut L, room: &mut Vec<u8>, start: usize, end: usize) -> (usize, ReadOut)
+    requires order { start ≤ end }
+    requires inside { end ≤ vec_len room.old }
+    requires fits { (end - start) < ROOM }
+    requires bounded { (vec_len room.old ≤ ROOM) × (ROOM ≤ vec_capacity room.old) }
+    ensures takes { Takes result.1 (take (end - start) (drop start room.old.items)) (take (end - start + got_len result.1) (drop result.0 room.new.items))
+        (L.told link.old) (L.told link.new) }
+    ensures fits { result.0 + (end - start) + got_len result.1 ≤ vec_len room.new }
+    ensures bounded { (vec_len room.new ≤ ROOM) × (ROOM ≤ vec_capacity room.new) }
+{
+    let more = least(FIRST_ROOM, ROOM - (end - start));
+    let start_now = make_room(room, start, end, more);
+    let out = read_at(link, room, start_now + (end - start));
+    (start_now, out)
+}
+
+/// The lesser number.
+pub(crate) fn least(a: usize, b: usize) -> usize
+    ensures one { result ≤ a }
+    ensures other { result ≤ b }
+    ensures some { 0 < a → 0 < b → 0 < result }
+{
+    if a < b { a } else { b }
 }
 
 /// How many bytes a read gave.
@@ -194,7 +236,7 @@ fn part_len(out: PartOut) -> usize
 }
 
 /// Reads from the link into the room from `at` on.
-fn read_behind<L: Link>(link: &mut L, room: &mut [u8], at: usize) -> ReadOut
+fn read_at<L: Link>(link: &mut L, room: &mut [u8], at: usize) -> ReadOut
     requires { at < length room.old }
     ensures within { GivesWithin result (drop at room.new) }
     ensures before { take at room.new ≡ take at room.old }
@@ -204,7 +246,14 @@ fn read_behind<L: Link>(link: &mut L, room: &mut [u8], at: usize) -> ReadOut
 }
 
 /// Reads at most `n` bytes of a file into the room from `at` on.
-fn part_behind<F: Files>(files: &mut F, lease: &mut Lease<F>, from: u64, room: &mut [u8], at: usize, n: usize) -> PartOut
+fn part_behind<F: Files>(
+    files: &mut F,
+    lease: &mut Lease<F>,
+    from: u64,
+    room: &mut [u8],
+    at: usize,
+    n: usize,
+) -> PartOut
     requires some { 0 < n }
     requires room { at + n ≤ length room.old }
     requires inside { from < lease.old.size }

@@ -1,20 +1,23 @@
 //! What a connection answers: the application is consulted, and heads and refusals are made.
 ghost use Rattle.std.specs.Prelude.{◌≡◌, ◌≤◌, ◌<◌, ◌+◌, ◌∷◌, ℕ, [], Option, Some, None, IfNone, IsSome, length};
 ghost use Rattle.outside.specs.Moments.{Gives};
+ghost use Rattle.app_trait.specs.Moves.{text_of};
+ghost use Rattle.app_trait.specs.Shown.{FitsMove, move_shown};
 ghost use Rattle.conn_loop.specs.Causes.{Clocked};
 ghost use Rattle.conn_loop.specs.Moves.{Consults, Refuses, Responds, MakesHead};
 ghost use Rattle.conn_loop.specs.Phases.{IsRefusal};
 ghost use Rattle.conn_loop.specs.Replying.{serving_over};
 ghost use Rattle.conn_loop.specs.Stages.{IsReadyStage};
-ghost use Rattle.conn_loop.specs.Steps.{ComesFor, Goes, Proceeds, CanSend, to_go};
+ghost use Rattle.conn_loop.specs.Steps.{ComesFor, FitsSize, Goes, Proceeds, CanSend, SendableMove, to_go};
 
 use super::Conn;
 use crate::closing::{last_word, left_after, note};
 use crate::phase::Phase;
 use crate::scratch::Scratch;
 use crate::step::Step;
-use app_trait::{App, Move, Request};
+use app_trait::{App, Move, Request, Seen};
 use outside::{Clock, Files, Link};
+use path_rules::PathBuf8;
 use warp_response::{Content, LastWord, Response, head_bytes, refusal};
 
 impl<F: Files> Conn<F> {
@@ -52,7 +55,8 @@ impl<F: Files> Conn<F> {
     fn consult<A: App>(&mut self, app: &A) -> Move
         requires some { 0 < self.old.left }
         requires ready { IsReadyStage self.old.stage }
-        ensures { Consults (A.moves app.now) result self.old self.new }
+        ensures consults { Consults (A.moves app.now) result self.old self.new }
+        ensures fits { FitsSize result }
     {
         let Phase::Ready { head, behind, seen } = self.phase else {
             unreachable!()
@@ -63,11 +67,13 @@ impl<F: Files> Conn<F> {
             target: head.target.of(bytes),
             minor: head.minor,
         };
-        let step = app.reply(&request, seen, &mut self.path);
-        if let Move::Look = step {
-            self.phase = Phase::Wanting { head, behind, seen };
+        match next_move(app, &request, seen, &mut self.path) {
+            Move::Look => {
+                self.phase = Phase::Wanting { head, behind, seen };
+                Move::Look
+            }
+            Move::Answer(response) => Move::Answer(response),
         }
-        step
     }
 
     /// Makes the head of the answer to the request that is whole, at the moment that the clock gives. The content follows
@@ -78,7 +84,12 @@ impl<F: Files> Conn<F> {
         requires sendable { CanSend response.now self.old.stage }
         ensures { (moment : ℕ) × Responds response.now moment self.old self.new × Gives (moment ∷ []) (C.told clock.old) (C.told clock.new) }
     {
-        let Phase::Ready { head, behind, .. } = self.phase else {
+        let Phase::Ready {
+            head,
+            behind,
+            seen: _seen,
+        } = self.phase
+        else {
             unreachable!()
         };
         let moment = clock.now();
@@ -116,4 +127,15 @@ fn phase_behind(content: Content) -> Phase
         Content::File { size, send: true } if size > 0 => Phase::Sending { at: 0, size },
         _ => Phase::Fresh,
     }
+}
+
+/// What the application does with a request once this was seen.
+fn next_move<A: App>(app: &A, request: &Request<'_>, seen: Seen, path: &mut PathBuf8) -> Move
+    requires { length request.now.target.now ≤ 8192 }
+    ensures is { move_shown request.now.target.now result path.new ≡ A.moves app.now (text_of request.now) seen }
+    ensures fits { FitsMove request.now.target.now seen result }
+    ensures sendable { SendableMove request.now.target.now result }
+    ensures size { FitsSize result }
+{
+    app.reply(request, seen, path)
 }

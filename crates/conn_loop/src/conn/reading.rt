@@ -133,11 +133,10 @@ impl<F: Files> Conn<F> {
         ensures same { self.new ≡ record self.old { input = self.new.input; stage = stage_after result self.old.stage; waits = waits_read result self.old.waits } }
     {
         let out = self.input.fill(link);
-        match out {
-            ReadOut::Got(_) => self.phase.more_came(),
-            ReadOut::NotYet => self.waits = self.waits.saturating_add(1),
-            ReadOut::End | ReadOut::Failed => {}
+        if let ReadOut::Got(_) = out {
+            self.phase.more_came();
         }
+        self.waits = waits_behind(out, self.waits);
         out
     }
 
@@ -150,5 +149,15 @@ impl<F: Files> Conn<F> {
             Phase::Fresh | Phase::Waits => is_blank(self.input.bytes()),
             _ => false,
         }
+    }
+}
+
+/// The count of waits after a read.
+fn waits_behind(out: ReadOut, waits: u64) -> u64
+    ensures { result ≡ waits_read out waits }
+{
+    match out {
+        ReadOut::NotYet => waits.saturating_add(1),
+        ReadOut::Got(_) | ReadOut::End | ReadOut::Failed => waits,
     }
 }

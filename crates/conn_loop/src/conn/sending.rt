@@ -1,11 +1,12 @@
 //! How a connection sends the content of a file: a part is read behind what was made, and written before more is read.
 ghost use Rattle.std.specs.Prelude.{◌≡◌, ◌≤◌, ◌<◌, ◌⊎◌, [], Option, Some, None, IfNone, length};
 ghost use Rattle.app_trait.specs.Moves.{Moves};
-ghost use Rattle.conn_loop.specs.Moves.{ReadsPart};
+ghost use Rattle.conn_loop.specs.Moves.{HasRead, IsPartWithin, ReadsPart};
 ghost use Rattle.conn_loop.specs.Replying.{Serving, serving_over};
 ghost use Rattle.conn_loop.specs.Steps.{ComesFor, Goes, GoesOver, IsSendingOut, IsSendingStage, to_go};
 
 use super::Conn;
+use crate::buffer::least;
 use crate::limits::{PIECE, ROOM};
 use crate::phase::Phase;
 use crate::step::Step;
@@ -55,8 +56,10 @@ impl<F: Files> Conn<F> {
         let Some(mut lease) = self.lease.take() else {
             unreachable!()
         };
-        let room = PIECE.min(ROOM - self.output.bytes().len());
-        let part = self.output.part(files, &mut lease, at, room.min((size - at) as usize));
+        let room = least(PIECE, ROOM - self.output.bytes().len());
+        let part = self
+            .output
+            .part(files, &mut lease, at, least(room, (size - at) as usize));
         self.lease = Some(lease);
         self.phase = phase_read(part, at, size);
     }

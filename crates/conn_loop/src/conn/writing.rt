@@ -1,7 +1,8 @@
 //! How a connection writes what was made, and ends.
 ghost use Rattle.std.specs.Prelude.{◌≡◌, ◌<◌, [], Option, Some, None, IfNone, IsSome, length};
-ghost use Rattle.conn_loop.specs.Moves.{Sends};
+ghost use Rattle.conn_loop.specs.Moves.{Sends, waits_after};
 ghost use Rattle.conn_loop.specs.Replying.{Serving};
+ghost use Rattle.conn_loop.specs.Standing.{IsAsking};
 ghost use Rattle.conn_loop.specs.Steps.{ComesFor, Goes, MayEnd, EndsWith};
 
 use super::Conn;
@@ -14,7 +15,8 @@ use warp_response::Response;
 impl<F: Files> Conn<F> {
     /// Writes what was made, and then ends the connection. The caller owes that this is how it ends.
     pub(super) fn end<L: Link>(&mut self, link: &mut L, end: End) -> Step
-        requires { MayEnd end self.old }
+        requires may { MayEnd end self.old }
+        requires quiet { ¬ IsAsking self.old }
         ensures stands { (serving : Option Serving) → ComesFor None serving self.old (L.told link.old) → ComesFor (Some result) serving self.new (L.told link.new) }
         ensures same { self.new ≡ record self.old { pending = self.new.pending; bytes = self.new.bytes; waits = self.new.waits } }
         ensures goes { EndsWith end result self.old self.new (L.told link.old) (L.told link.new) }
@@ -75,9 +77,17 @@ impl<F: Files> Conn<F> {
         let (n, end) = write_out(link, self.output.bytes());
         self.output.skip(n);
         self.bytes = self.bytes.saturating_add(n as u64);
-        if let WriteEnd::Waits = end {
-            self.waits = self.waits.saturating_add(1);
-        }
+        self.waits = waits_behind(end, self.waits);
         end
+    }
+}
+
+/// The count of waits after a run of writes.
+fn waits_behind(end: WriteEnd, waits: u64) -> u64
+    ensures { result ≡ waits_after end waits }
+{
+    match end {
+        WriteEnd::Waits => waits.saturating_add(1),
+        WriteEnd::All | WriteEnd::Fails => waits,
     }
 }

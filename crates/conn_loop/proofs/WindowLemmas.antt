@@ -1,0 +1,62 @@
+-- The bytes that lie in a room from a place on.
+use Rattle.std.proofs.Common.{◌≡◌, ℕ, ◌+◌, ◌-◌, ◌≤◌, List, [], ◌++◌, length, take, drop, refl, sym, ap, ◌∙◌, arith}
+use Rattle.std.proofs.lemmas.List.{drop-take, drop-drop, length-take}
+use Rattle.std.proofs.Math.Seq.{take-add}
+use Rattle.outside.specs.declared.link.ReadOut.{ReadOut}
+use Rattle.outside.specs.declared.link.ReadOut.TheVariants.{Got, End, NotYet, Failed}
+use Rattle.outside.specs.Causes.{bytes_got, GivesWithin, LinkTold, Read}
+use Rattle.conn_loop.specs.Moves.{Takes, HasSome, got_len}
+
+-- a window that begins later
+pub window_skip : (n s e : ℕ) (xs : List ℕ) → s + n ≤ e → take (e - (s + n)) (drop (s + n) xs) ≡ drop n (take (e - s) (drop s xs))
+window_skip n s e xs fits =
+    let m = e - (s + n) in
+    let split : e - s ≡ n + m = omega arith in
+    sym (ap (λ (k : ℕ). drop n (take k (drop s xs))) split ∙ drop-take n m (drop s xs) ∙ ap (λ (t : List ℕ). take m t) (drop-drop n s xs))
+
+-- a window that is skipped whole
+pub window_gone : (n s e : ℕ) (xs : List ℕ) → s + n ≡ e → [] ≡ drop n (take (e - s) (drop s xs))
+window_gone n s e xs is =
+    let none : 0 ≡ e - (s + n) = omega (arith, is) in
+    ap (λ (k : ℕ). take k (drop (s + n) xs)) none ∙ window_skip n s e xs (omega (arith, is))
+
+-- where the front of a room stays, so does a window in it
+pub window_kept : (s len : ℕ) (xs ys : List ℕ) → take (s + len) xs ≡ take (s + len) ys → take len (drop s xs) ≡ take len (drop s ys)
+window_kept s len xs ys same = sym (drop-take s len xs) ∙ ap (λ (t : List ℕ). drop s t) same ∙ drop-take s len ys
+
+-- a window, and a piece of n bytes behind it
+pub window_more : (s len n : ℕ) (xs ys old : List ℕ) → take (s + len) ys ≡ take (s + len) xs → take len (drop s xs) ≡ old
+    → take (len + n) (drop s ys) ≡ old ++ take n (drop (s + len) ys)
+window_more s len n xs ys old same was =
+    take-add len n (drop s ys) ∙ ap (λ (t : List ℕ). t ++ take n (drop len (drop s ys))) (window_kept s len ys xs same ∙ was)
+    ∙ ap (λ (t : List ℕ). old ++ take n t) (drop-drop len s ys)
+
+-- what a read gave
+piece_len : (out : ReadOut) (buf : List ℕ) → GivesWithin out buf → length (bytes_got out buf) ≡ got_len out
+piece_len (Got n) buf within = omega (arith, length-take n buf, within.0, within.1)
+piece_len End buf within = refl
+piece_len NotYet buf within = refl
+piece_len Failed buf within = refl
+
+piece_some : (out : ReadOut) (buf : List ℕ) → GivesWithin out buf → HasSome out (bytes_got out buf)
+piece_some (Got n) buf within = omega (arith, length-take n buf, within.0, within.1)
+piece_some End buf within = tt
+piece_some NotYet buf within = tt
+piece_some Failed buf within = tt
+
+piece_is : (out : ReadOut) (buf : List ℕ) → take (got_len out) buf ≡ bytes_got out buf
+piece_is (Got n) buf = refl
+piece_is End buf = refl
+piece_is NotYet buf = refl
+piece_is Failed buf = refl
+
+-- a read behind a window
+pub window_takes : (out : ReadOut) (s len : ℕ) (xs ys old : List ℕ) (k l : LinkTold) → take (s + len) ys ≡ take (s + len) xs → take len (drop s xs) ≡ old
+    → GivesWithin out (drop (s + len) ys) → Read out (bytes_got out (drop (s + len) ys)) k l → Takes out old (take (len + got_len out) (drop s ys)) k l
+window_takes out s len xs ys old k l same was within read = record {
+  piece = bytes_got out (drop (s + len) ys);
+  grown = window_more s len (got_len out) xs ys old same was ∙ ap (λ (t : List ℕ). old ++ t) (piece_is out (drop (s + len) ys));
+  read = read;
+  long = piece_len out (drop (s + len) ys) within;
+  some = piece_some out (drop (s + len) ys) within;
+}
