@@ -1,6 +1,6 @@
 -- Why a step comes, over one part of a call after the other.
-use Rattle.std.proofs.Common.{◌≡◌, ◌≢◌, ℕ, ◌+◌, ◌≤◌, List, [], ◌++◌, length, Option, Some, None, IfSome, refl, sym, ap, ◌∙◌, subst, arith, inl, inr, append_assoc, append-nil}
-use Rattle.std.specs.Prelude.{◌⊎◌, ◌↔◌, min}
+use Rattle.std.proofs.Common.{◌≡◌, ◌≢◌, ℕ, ◌+◌, ◌≤◌, List, [], ◌∷◌, ◌++◌, length, Option, Some, None, IfSome, refl, sym, ap, ◌∙◌, subst, arith, inl, inr, append_assoc, append-nil}
+use Rattle.std.specs.Prelude.{◌⊎◌, ◌↔◌, min, nat_lt, Bool, true, false, if◌then◌else◌}
 use Rattle.outside.specs.Causes.{LinkTold, KeepsLink}
 use Rattle.outside.specs.Counts.{Counts, Rises, full}
 use Rattle.outside.specs.FileCauses.{FilesTold}
@@ -10,14 +10,19 @@ use Rattle.conn_loop.specs.declared.step.Step.TheVariants.{WantRead, WantWrite, 
 use Rattle.conn_loop.specs.declared.step.End.{End}
 use Rattle.conn_loop.specs.declared.step.End.TheVariants.{Clean, Cut, ReadFault, WriteFault, FileFault, NoMemory}
 use Rattle.conn_loop.specs.Causes.{Clocked, CountsWaits, HasFault, Keeps, ReadsOnly}
-use Rattle.conn_loop.specs.Stages.{Stage, failing, FailsBy}
+use Rattle.conn_loop.specs.Stages.{Stage, unread, sending, failing, FailsBy}
 use Rattle.conn_loop.specs.Standing.{Standing, Counted, IsAsking}
 use Rattle.conn_loop.specs.declared.writing.WriteEnd.{WriteEnd}
 use Rattle.conn_loop.specs.declared.writing.WriteEnd.TheVariants.{All, Waits, Fails}
-use Rattle.conn_loop.specs.Moves.{Sends}
+use Rattle.app_trait.specs.Moves.{Moves}
+use Rattle.outside.specs.Folder.{Folder}
+use Rattle.outside.specs.FileCauses.{PartFaults}
+use Rattle.outside.specs.declared.files.PartOut.{PartOut}
+use Rattle.outside.specs.declared.files.PartOut.TheVariants as Parts
+use Rattle.conn_loop.specs.Moves.{AsksToLook, ReadsPart, Sends, stage_read}
 use Rattle.conn_loop.proofs.StepLemmas.{due_step}
 use Rattle.conn_loop.proofs.WritingLemmas.{sends_counted}
-use Rattle.conn_loop.specs.Steps.{Goes, GoesOver, EndsWith, CountsFor}
+use Rattle.conn_loop.specs.Steps.{Goes, GoesOver, EndsWith, CountsFor, MayEnd}
 
 -- ---- moments
 
@@ -46,6 +51,18 @@ clocked_then first was new k l m x y = record {
 -- a clock that wasn't asked
 pub clocked_none : (old new : Standing) (k : ClockTold) → new.moments ≡ old.moments → Clocked old new k k
 clocked_none old new k same = record { gained = []; grown = same ∙ sym (append-nil old.moments); gave = record { gains = gains_none k.given; stays = refl } }
+
+-- a clock that gave one moment
+pub clocked_one : (old new : Standing) (m : ℕ) (k l : ClockTold) → new.moments ≡ old.moments ++ m ∷ [] → Gives (m ∷ []) k l → Clocked old new k l
+clocked_one old new m k l same gave = record { gained = m ∷ []; grown = same; gave = gave }
+
+-- a step in which nothing was noted before
+pub clocked_same : (old mid new : Standing) (k l : ClockTold) → mid.moments ≡ old.moments → Clocked mid new k l → Clocked old new k l
+clocked_same old mid new k l same x = record { gained = x.gained; grown = x.grown ∙ ap (λ (v : List ℕ). v ++ x.gained) same; gave = x.gave }
+
+-- what was noted is kept
+pub clocked_kept : (old mid new : Standing) (k l : ClockTold) → new.moments ≡ mid.moments → Clocked old mid k l → Clocked old new k l
+clocked_kept old mid new k l same x = record { gained = x.gained; grown = same ∙ x.grown; gave = x.gave }
 
 -- ---- what stays
 
@@ -236,3 +253,77 @@ ends_stopped end step a b k l quiet x = record {
   stays = x.stays;
   file = λ is. quiet (x.file (ap (λ (s : Step). Some s) is));
 }
+
+-- an application that asks for a look
+pub goes_asks : (moves : Moves) (old new : Standing) (k : LinkTold) → AsksToLook moves old new → Goes (Some WantFile) old new k k
+goes_asks moves old new k x = record {
+  keeps = record { reads = omega arith; writes = omega arith; plan = refl };
+  cause = λ files since. tt;
+  counts = refl;
+  counted = λ was. record {
+    waits = ap (λ (v : Standing). v.waits) x.same ∙ was.waits;
+    bytes = counted_kept k.sent old.bytes new.bytes (ap (λ (v : Standing). v.bytes) x.same) was.bytes;
+  };
+  stays = ap (λ (v : Standing). failing v.stage) x.same ∙ sym (ap (λ (st : Stage). failing st) x.was);
+  file = λ is. subst (λ (v : Standing). IsAsking v) (sym x.same) tt;
+}
+
+-- an end that may come has its cause
+pub end_fault : (end : End) (c : Standing) (k l : LinkTold) (f g : FilesTold) → MayEnd end c → HasFault (Done end) (failing c.stage) k l f g
+end_fault Clean c k l f g may = tt
+end_fault Cut c k l f g may = tt
+end_fault ReadFault c k l f g may = absurd may
+end_fault WriteFault c k l f g may = absurd may
+end_fault FileFault c k l f g may = inl may.fails
+end_fault NoMemory c k l f g may = may.fails
+
+-- a file is waited for
+pub goes_waits : (c : Standing) (k : LinkTold) (f : FilesTold) → IsAsking c → GoesOver (Some WantFile) c c k k f f
+goes_waits c k f asks = record {
+  keeps = record { of_link = record { reads = omega arith; writes = omega arith; plan = refl }; of_files = files_none f };
+  cause = tt;
+  fails = inl refl;
+  counts = refl;
+  counted = λ was. was;
+  file = λ is. asks;
+}
+
+-- nothing was done
+pub goes_none : (c : Standing) (k : LinkTold) (f : FilesTold) → GoesOver None c c k k f f
+goes_none c k f = record {
+  keeps = record { of_link = record { reads = omega arith; writes = omega arith; plan = refl }; of_files = files_none f };
+  cause = tt;
+  fails = inl refl;
+  counts = refl;
+  counted = λ was. was;
+  file = λ is. cc;
+}
+
+-- a part of a content was read, or the file failed
+part_fails : (out : PartOut) (at size f g : ℕ) → PartFaults out f g → (failing (stage_read out at size) ≡ None) ⊎ ((failing (stage_read out at size) ≡ Some FileFault) × Rises f g)
+part_fails (Parts.Got n) at size f g x =
+    inl (elim (nat_lt (at + n) size) as (λ (b : Bool). failing (if b then sending (at + n) size else unread) ≡ None) [ true ↦ refl | false ↦ refl ])
+part_fails Parts.Failed at size f g x = inr (refl, x.1)
+
+part_later : (out : PartOut) (f g : ℕ) → PartFaults out f g → f ≤ g
+part_later (Parts.Got n) f g x = x
+part_later Parts.Failed f g x = x.0
+
+pub goes_part : (folder : Option Folder) (old new : Standing) (k : LinkTold) (f g : FilesTold) → ReadsPart folder old new f g → GoesOver None old new k k f g
+goes_part folder old new k f g x =
+    let before : failing old.stage ≡ None = ap (λ (st : Stage). failing st) x.was in
+    let after : failing new.stage ≡ failing (stage_read x.out x.at x.size) = ap (λ (c : Standing). failing c.stage) x.same in
+    record {
+      keeps = record {
+        of_link = record { reads = omega arith; writes = omega arith; plan = refl };
+        of_files = record { later = part_later x.out f.faults g.faults x.read.faulted; same = x.read.same };
+      };
+      cause = tt;
+      fails = elim (part_fails x.out x.at x.size f.faults g.faults x.read.faulted) [ inl none ↦ inl (after ∙ none ∙ sym before) | inr rose ↦ inr (after ∙ rose.0, rose.1) ];
+      counts = refl;
+      counted = λ was. record {
+        waits = ap (λ (v : Standing). v.waits) x.same ∙ was.waits;
+        bytes = counted_kept k.sent old.bytes new.bytes (ap (λ (v : Standing). v.bytes) x.same) was.bytes;
+      };
+      file = λ is. cc;
+    }

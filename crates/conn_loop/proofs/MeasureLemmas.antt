@@ -4,8 +4,9 @@ use Rattle.std.specs.Prelude.{if◌then◌else◌, IfNone}
 use Rattle.outside.specs.Causes.{LinkTold}
 use Rattle.outside.specs.declared.link.ReadOut.TheVariants as Reads
 use Rattle.conn_loop.specs.declared.step.Step.{Step}
-use Rattle.conn_loop.specs.Stages.{Stage, unread, short, reading, refusing, ready, wanting, sending, unmade, broken, finished, body_steps, grown, steps_left, IsWanting}
-use Rattle.conn_loop.specs.Moves.{Takes, waits_read}
+use Rattle.conn_loop.specs.Stages.{Stage, unread, short, reading, refusing, ready, wanting, sending, unmade, broken, finished, body_steps, grown, looks_left, steps_left, IsWanting}
+use Rattle.app_trait.specs.Moves.{Moves}
+use Rattle.conn_loop.specs.Moves.{AsksToLook, Takes, waits_read}
 use Rattle.conn_loop.specs.Standing.{Standing}
 use Rattle.conn_loop.specs.Steps.{stage_after, to_go}
 
@@ -15,7 +16,7 @@ wanting_room unread input wants = absurd wants
 wanting_room short input wants = wants
 wanting_room (reading a reader room) input wants = wants.0
 wanting_room (refusing code) input wants = absurd wants
-wanting_room (ready a behind seen) input wants = absurd wants
+wanting_room (ready a behind seen path) input wants = absurd wants
 wanting_room (wanting a behind seen path) input wants = absurd wants
 wanting_room (sending at size) input wants = absurd wants
 wanting_room (unmade end) input wants = absurd wants
@@ -27,7 +28,7 @@ stage_fewer unread old new wants longer = absurd wants
 stage_fewer short old new wants longer = omega (arith, wants, longer)
 stage_fewer (reading a reader room) old new wants longer = omega (arith, wants.1, longer, length-drop a.len old, length-drop a.len new)
 stage_fewer (refusing code) old new wants longer = absurd wants
-stage_fewer (ready a behind seen) old new wants longer = absurd wants
+stage_fewer (ready a behind seen path) old new wants longer = absurd wants
 stage_fewer (wanting a behind seen path) old new wants longer = absurd wants
 stage_fewer (sending at size) old new wants longer = absurd wants
 stage_fewer (unmade end) old new wants longer = absurd wants
@@ -53,3 +54,10 @@ got_nearer n old mid new k l written wants takes same =
 pub nearer_from : (result : Option Step) (a b c : ℕ) → IfNone result (a < b) → b ≤ c → IfNone result (a < c)
 nearer_from None a b c x later = omega (arith, x, later)
 nearer_from (Some step) a b c x later = tt
+
+-- a look is asked for
+pub asks_nearer : (moves : Moves) (old new : Standing) → AsksToLook moves old new → to_go new < to_go old
+asks_nearer moves old new x =
+    let after : to_go new ≡ old.left * (2 * body_steps) + 2 * looks_left x.seen = ap (λ (c : Standing). to_go c) x.same in
+    let before : to_go old ≡ old.left * (2 * body_steps) + (2 * looks_left x.seen + 1) = ap (λ (st : Stage). old.left * (2 * body_steps) + steps_left st old.input) x.was in
+    omega (arith, after, before)

@@ -7,7 +7,9 @@ use Rattle.outside.specs.PieceLink.{fresh_told}
 use Rattle.outside.specs.declared.link.ReadOut.{ReadOut}
 use Rattle.outside.specs.declared.link.ReadOut.TheVariants as Reads
 use Rattle.outside.specs.Counts.{Counts, full}
-use Rattle.warp_request.specs.Verdict.{refused}
+use Rattle.warp_request.specs.BodyReader.{Represents as Reads}
+use Rattle.warp_request.specs.declared.body_reader.BodyReader.{BodyReader}
+use Rattle.warp_request.specs.Verdict.{Asked, asked, refused}
 use Rattle.warp_request.specs.Laws.{StaysSettled}
 use Rattle.warp_request.specs.Next.{next_of}
 use Rattle.warp_request.specs.Lines.{skip_empty}
@@ -17,6 +19,7 @@ use Rattle.conn_loop.specs.declared.step.End.{End}
 use Rattle.conn_loop.specs.declared.step.End.TheVariants.{Clean, Cut, ReadFault, WriteFault, FileFault, NoMemory}
 use Rattle.conn_loop.specs.declared.writing.WriteEnd.{WriteEnd}
 use Rattle.conn_loop.specs.declared.writing.WriteEnd.TheVariants.{All, Waits, Fails}
+use Rattle.conn_loop.specs.Causes.{end_of}
 use Rattle.conn_loop.specs.Ends.{StepImplies, GoesOn, HasEnded, SendsPrefix, WhereTold}
 use Rattle.conn_loop.specs.Stages.{Stage, unread, short, reading, refusing, ready, wanting, sending, unmade, broken, finished, failing, grown, unread_at, HasNoContent, LiesAhead, IsBetween, IsWanting}
 use Rattle.warp_response.specs.Text.{refusal_text}
@@ -26,10 +29,11 @@ use Rattle.conn_loop.specs.Moves.{Takes, Sends, Refuses, HasSome, got_len, waits
 use Rattle.outside.specs.Folder.{Folder}
 use Rattle.app_trait.specs.Moves.{Moves}
 use Rattle.conn_loop.specs.Replying.{Serving, replies, serving_over}
-use Rattle.conn_loop.specs.Standing.{Standing, Accounts, Counted, HoldsAt, Looks, SendsPrefixFor, Stands, due_of}
-use Rattle.conn_loop.specs.Steps.{Comes, ComesFor, IsFailing, MayEnd, stage_after}
+use Rattle.conn_loop.specs.Standing.{Standing, Accounts, AsksFor, Counted, IsAskingStage, AccountsUnless, HoldsAt, Looks, SendsPrefixFor, Stands, StepImpliesFor, due_of}
+use Rattle.conn_loop.specs.Steps.{Comes, ComesFor, Goes, IsBegun, IsFailing, MayEnd, Proceeds, stage_after, stage_kept}
 use Rattle.conn_loop.specs.Writing.{Writes, Leaves}
-use Rattle.conn_loop.proofs.StandingLemmas.{IsUnanswered, accounts_take, accounts_send, accounts_lies, accounts_given, accounts_refuse, part_of, whole_closed, whole_wanting, short_of, broken_of, closed_of, open_of, rest_is, unread_none}
+use Rattle.conn_loop.proofs.StandingLemmas.{IsUnanswered, prefix_of, fewer_of, accounts_take, accounts_send, accounts_lies, accounts_given, accounts_refuse, part_of, whole_closed, whole_wanting, short_of, broken_of, closed_of, open_of, rest_is, unread_none}
+use Rattle.conn_loop.proofs.StageLemmas.{begun_content, begun_looks}
 use Rattle.conn_loop.proofs.VerdictLemmas.{asked_some}
 use Rattle.conn_loop.proofs.ToldLemmas.{told_kept, told_sent, told_taken}
 
@@ -77,7 +81,7 @@ fails_at end unread is = cc
 fails_at end short is = cc
 fails_at end (reading a reader room) is = cc
 fails_at end (refusing code) is = cc
-fails_at end (ready a behind seen) is = cc
+fails_at end (ready a behind seen path) is = cc
 fails_at end (wanting a behind seen path) is = cc
 fails_at end (sending at size) is = cc
 fails_at end (unmade other) is = inl (tt, tt)
@@ -154,6 +158,11 @@ stage_stays Reads.End stage none some = refl
 stage_stays Reads.NotYet stage none some = refl
 stage_stays Reads.Failed stage none some = refl
 
+-- where no bytes came, the input is as it was
+pub taken_same : (out : ReadOut) (old new : List ℕ) (k l : LinkTold) → Takes out old new k l → got_len out ≡ 0 → new ≡ old
+taken_same out old new k l takes none =
+    takes.grown ∙ ap (λ (p : List ℕ). old ++ p) (no_length takes.piece (takes.long ∙ none)) ∙ append-nil old
+
 -- where no bytes came, nothing is changed but the count of waits
 nothing_read : (out : ReadOut) (old new : Standing) (k l : LinkTold) → Takes out old.input new.input k l
     → new ≡ record old { input = new.input; stage = stage_after out old.stage; waits = waits_read out old.waits } → got_len out ≡ 0 → Unread out old new
@@ -226,7 +235,7 @@ begun_not unread given input ahead wants x other = absurd wants
 begun_not short given input ahead wants x other = λ blank. other (tt, ap (λ (v : List ℕ). skip_empty v) (sym x.1) ∙ blank)
 begun_not (reading a reader room) given input ahead wants x other = asked_some ahead a (ap (λ (v : List ℕ). next_of v) (sym (append-nil ahead)) ∙ x.1.asks [])
 begun_not (refusing code) given input ahead wants x other = absurd wants
-begun_not (ready a behind seen) given input ahead wants x other = absurd wants
+begun_not (ready a behind seen path) given input ahead wants x other = absurd wants
 begun_not (wanting a behind seen path) given input ahead wants x other = absurd wants
 begun_not (sending at size) given input ahead wants x other = absurd wants
 begun_not (unmade end) given input ahead wants x other = absurd wants
@@ -239,7 +248,7 @@ blank_ahead unread given input ahead wants x between blank = absurd wants
 blank_ahead short given input ahead wants x between blank = ap (λ (v : List ℕ). skip_empty v) x.1 ∙ blank
 blank_ahead (reading a reader room) given input ahead wants x between blank = absurd between
 blank_ahead (refusing code) given input ahead wants x between blank = absurd wants
-blank_ahead (ready a behind seen) given input ahead wants x between blank = absurd wants
+blank_ahead (ready a behind seen path) given input ahead wants x between blank = absurd wants
 blank_ahead (wanting a behind seen path) given input ahead wants x between blank = absurd wants
 blank_ahead (sending at size) given input ahead wants x between blank = absurd wants
 blank_ahead (unmade end) given input ahead wants x between blank = absurd wants
@@ -348,6 +357,34 @@ given_for serving old new link interim some stage moments left pending is lies c
       at = subst (λ (v : List ℕ). HoldsAt None r v t s link.ended) (sym moments) y.at;
     }) x
 
+read_one : (serving : Serving) (old new : Standing) (t s : List ℕ) (ended : Option Bool) (a : Asked) (reader : BodyReader) (room : ℕ) → old.stage ≡ reading a reader room
+    → new ≡ record old { input = new.input; stage = new.stage } → IsBegun new.stage
+    → ((fed ahead : List ℕ) → Reads reader a.framing fed → ahead ≡ take a.len old.input ++ (fed ++ drop a.len old.input) → ((u : List ℕ) → next_of (ahead ++ u) ≡ asked a)
+    → LiesAhead new.stage true new.input ahead) → Comes None serving old t s ended → Comes None serving new t s ended
+read_one serving old new t s ended a reader room was same begun lies x =
+    let there : LiesAhead (reading a reader room) x.accounts.given old.input x.accounts.ahead =
+    subst (λ (st : Stage). LiesAhead st x.accounts.given old.input x.accounts.ahead) was x.accounts.lies in
+    let before : unread_at old.stage serving.folder old.lease ≡ [] = ap (λ (st : Stage). unread_at st serving.folder old.lease) was in
+    let after : unread_at new.stage serving.folder new.lease ≡ [] = unread_none new.stage serving.folder new.lease (begun_content new.stage begun) in
+    let due : due_of serving new ≡ due_of serving old =
+    ap (λ (v : List ℕ). v ++ unread_at new.stage serving.folder new.lease) (ap (λ (c : Standing). c.pending) same) ∙ ap (λ (v : List ℕ). old.pending ++ v) (after ∙ sym before) in
+    let moments : new.moments ≡ old.moments = ap (λ (c : Standing). c.moments) same in
+    record {
+      accounts = accounts_lies serving old new t s due moments (ap (λ (c : Standing). c.left) same) x.accounts
+          (subst (λ (b : Bool). LiesAhead new.stage b new.input x.accounts.ahead) (sym there.0) (lies there.1.fed x.accounts.ahead there.1.stands there.1.parts there.1.asks))
+          (begun_looks serving new.stage new.lease begun);
+      at = x.at;
+    }
+
+-- a body was read on
+pub read_for : (serving : Option Serving) (old new : Standing) (link : LinkTold) (a : Asked) (reader : BodyReader) (room : ℕ) → old.stage ≡ reading a reader room
+    → new ≡ record old { input = new.input; stage = new.stage } → IsBegun new.stage
+    → ((fed ahead : List ℕ) → Reads reader a.framing fed → ahead ≡ take a.len old.input ++ (fed ++ drop a.len old.input) → ((u : List ℕ) → next_of (ahead ++ u) ≡ asked a)
+    → LiesAhead new.stage true new.input ahead) → ComesFor None serving old link → ComesFor None serving new link
+read_for serving old new link a reader room was same begun lies x =
+    told_kept (λ r t s. Comes None r old t s link.ended) (λ r t s. Comes None r new t s link.ended) serving link
+    (λ r t s y. read_one r old new t s link.ended a reader room was same begun lies y) x
+
 -- what stays refused, whatever follows
 pub refused_stays : (s input : List ℕ) (code : ℕ) → s ≡ input → refused code ≡ next_of s → StaysSettled s → (t : List ℕ) → next_of (input ++ t) ≡ refused code
 refused_stays s input code same is stays t = ap (λ (v : List ℕ). next_of (v ++ t)) (sym same) ∙ stays t (refused code) (sym is) (λ e. cc)
@@ -371,9 +408,102 @@ refuse_for serving old new link m code some is refuses x =
       at = y.at;
     }) x
 
+-- ---- what is asked for
+
+-- a part of a call in which the link stopped it
+pub proceeds_stopped : (moves : Moves) (result : Option Step) (old new : Standing) (k l : LinkTold) → new ≡ record old { pending = new.pending; bytes = new.bytes; waits = new.waits }
+    → AsksFor moves old.stage → (IsAskingStage old.stage → ⊥) → Goes result old new k l → Proceeds moves result old new
+proceeds_stopped moves result old new k l same asks quiet goes =
+    let stage : new.stage ≡ old.stage = ap (λ (c : Standing). c.stage) same in
+    record {
+      over = ap (λ (c : Standing). c.over) same;
+      asks = subst (λ (st : Stage). AsksFor moves st) (sym stage) asks;
+      file = (goes.file, (λ asking. absurd (quiet (subst (λ (st : Stage). IsAskingStage st) stage asking))));
+    }
+
+-- a part of a call that answers nothing and asks for nothing
+pub proceeds_quiet : (moves : Moves) (old new : Standing) → new.over ≡ old.over → AsksFor moves new.stage → (IsAskingStage new.stage → ⊥) → Proceeds moves None old new
+proceeds_quiet moves old new over asks quiet = record { over = over; asks = asks; file = ((λ e. cc), (λ asking. absurd (quiet asking))) }
+
+-- a part of a call behind another one
+pub proceeds_then : (moves : Moves) (result : Option Step) (old mid new : Standing) → mid.over ≡ old.over → Proceeds moves result mid new → Proceeds moves result old new
+proceeds_then moves result old mid new over x = record { over = x.over ∙ over; asks = x.asks; file = x.file }
+
+asking_unanswered : (stage : Stage) → IsAskingStage stage → IsUnanswered stage
+asking_unanswered unread x = absurd x
+asking_unanswered short x = absurd x
+asking_unanswered (reading a reader room) x = absurd x
+asking_unanswered (refusing code) x = absurd x
+asking_unanswered (ready a behind seen path) x = absurd x
+asking_unanswered (wanting a behind seen path) x = tt
+asking_unanswered (sending at size) x = absurd x
+asking_unanswered (unmade end) x = absurd x
+asking_unanswered (broken at) x = absurd x
+asking_unanswered finished x = absurd x
+
+-- a file is waited for
+pub waits_for : (serving : Option Serving) (c : Standing) (link : LinkTold) → IsAskingStage c.stage → 0 < c.left → ComesFor None serving c link → ComesFor (Some WantFile) serving c link
+waits_for serving c link asks some x =
+    told_kept (λ r t s. Comes None r c t s link.ended) (λ r t s. Comes (Some WantFile) r c t s link.ended) serving link
+    (λ r t s y. record { accounts = y.accounts; at = (fewer_of r c t s some (asking_unanswered c.stage asks) y.accounts, y.at) }) x
+
 -- ---- a whole call
 
 pub prefix_for : (moves : Moves) (folder : Option Folder) (c : Standing) (link : LinkTold)
     → WhereTold (serving_over moves folder) link (λ v t s. Stands v c t s link.ended) → SendsPrefixFor (serving_over moves folder) c link
 prefix_for moves folder c link x =
     told_kept (λ r t s. Stands r c t s link.ended) (λ r t s. SendsPrefix (replies r) c.moments t s) (serving_over moves folder) link (λ r t s y. y.prefix) x
+
+open_at : (c : Standing) → c.over ≡ None → (r : Serving) (t s : List ℕ) (ended : Option Bool) → Stands r c t s ended → Comes None r c t s ended
+open_at c runs r t s ended x = record {
+  accounts = subst (λ (o : Option End). AccountsUnless o r c t s) runs x.accounts;
+  at = subst (λ (o : Option End). HoldsAt (option_map Done o) r c.moments t s ended) runs x.at;
+}
+
+-- a connection that isn't over goes on
+pub open_for : (moves : Moves) (folder : Option Folder) (c : Standing) (link : LinkTold) → c.over ≡ None
+    → WhereTold (serving_over moves folder) link (λ v t s. Stands v c t s link.ended) → ComesFor None (serving_over moves folder) c link
+open_for moves folder c link runs x =
+    told_kept (λ r t s. Stands r c t s link.ended) (λ r t s. Comes None r c t s link.ended) (serving_over moves folder) link (λ r t s y. open_at c runs r t s link.ended y) x
+
+at_kept : (step : Step) (serving : Serving) (moments t s : List ℕ) (ended : Option Bool) → StepImplies step (replies serving) moments t s ended
+    → HoldsAt (option_map Done (end_of step)) serving moments t s ended
+at_kept WantRead serving moments t s ended x = x.2
+at_kept WantWrite serving moments t s ended x = x.1
+at_kept WantFile serving moments t s ended x = x.1
+at_kept (Done end) serving moments t s ended x = x
+
+accounts_kept : (step : Step) (serving : Serving) (c : Standing) (t s : List ℕ) → Accounts serving c t s
+    → AccountsUnless (end_of step) serving (record c { over = end_of step; stage = stage_kept step c.stage }) t s
+accounts_kept WantRead serving c t s x = accounts_lies serving c (record c { over = None }) t s refl refl refl x x.lies x.looks
+accounts_kept WantWrite serving c t s x = accounts_lies serving c (record c { over = None }) t s refl refl refl x x.lies x.looks
+accounts_kept WantFile serving c t s x = accounts_lies serving c (record c { over = None }) t s refl refl refl x x.lies x.looks
+accounts_kept (Done end) serving c t s x = tt
+
+-- what was answered is kept
+pub kept_for : (step : Step) (moves : Moves) (folder : Option Folder) (mid new : Standing) (link : LinkTold)
+    → new ≡ record mid { over = end_of step; stage = stage_kept step mid.stage }
+    → ComesFor (Some step) (serving_over moves folder) mid link → WhereTold (serving_over moves folder) link (λ v t s. Stands v new t s link.ended)
+kept_for step moves folder mid new link same x =
+    subst (λ (c : Standing). WhereTold (serving_over moves folder) link (λ v t s. Stands v c t s link.ended)) (sym same)
+    (told_kept (λ r t s. Comes (Some step) r mid t s link.ended)
+    (λ r t s. Stands r (record mid { over = end_of step; stage = stage_kept step mid.stage }) t s link.ended) (serving_over moves folder) link
+    (λ r t s y. record {
+      accounts = accounts_kept step r mid t s y.accounts;
+      prefix = prefix_of r mid t s y.accounts;
+      at = at_kept step r mid.moments t s link.ended y.at;
+    }) x)
+
+-- and what the step says holds
+pub implied_for : (step : Step) (moves : Moves) (folder : Option Folder) (mid new : Standing) (link : LinkTold) → new.moments ≡ mid.moments
+    → ComesFor (Some step) (serving_over moves folder) mid link → StepImpliesFor step (serving_over moves folder) new link
+implied_for step moves folder mid new link same x =
+    told_kept (λ r t s. Comes (Some step) r mid t s link.ended) (λ r t s. StepImplies step (replies r) new.moments t s link.ended) (serving_over moves folder) link
+    (λ r t s y. subst (λ (v : List ℕ). StepImplies step (replies r) v t s link.ended) (sym same) y.at) x
+
+-- a connection that is over says so of its bytes
+pub over_for : (end : End) (moves : Moves) (folder : Option Folder) (c : Standing) (link : LinkTold) → c.over ≡ Some end
+    → WhereTold (serving_over moves folder) link (λ v t s. Stands v c t s link.ended) → StepImpliesFor (Done end) (serving_over moves folder) c link
+over_for end moves folder c link over x =
+    told_kept (λ r t s. Stands r c t s link.ended) (λ r t s. StepImplies (Done end) (replies r) c.moments t s link.ended) (serving_over moves folder) link
+    (λ r t s y. subst (λ (o : Option End). HoldsAt (option_map Done o) r c.moments t s link.ended) over y.at) x

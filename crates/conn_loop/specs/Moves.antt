@@ -18,7 +18,9 @@ use Rattle.warp_response.specs.Text.{refusal_text}
 use Rattle.app_trait.specs.declared.app.Move.{Move}
 use Rattle.app_trait.specs.declared.app.Move.TheVariants.{Look, Answer}
 use Rattle.app_trait.specs.declared.request.Seen.{Seen}
+use Rattle.app_trait.specs.Seen.{next_seen}
 use Rattle.app_trait.specs.Moves.{Moves, look_at, answer}
+use Rattle.conn_loop.specs.declared.step.End.{End as Finish}
 use Rattle.app_trait.specs.Shown.{Fits, outline_of}
 use Rattle.conn_loop.specs.declared.writing.WriteEnd.{WriteEnd}
 use Rattle.conn_loop.specs.declared.writing.WriteEnd.TheVariants.{All, Waits, Fails}
@@ -26,7 +28,7 @@ use Rattle.conn_loop.specs.Answers.{closes, last_word}
 use Rattle.conn_loop.specs.Replying.{request_of}
 use Rattle.conn_loop.specs.declared.phase.Phase.{Phase}
 use Rattle.conn_loop.specs.Phases.{IsKept, HasLease, over_in, stage_in}
-use Rattle.conn_loop.specs.Stages.{Stage, unread, ready, wanting, sending, broken}
+use Rattle.conn_loop.specs.Stages.{Stage, unread, ready, wanting, sending, unmade, broken, looks_left}
 use Rattle.conn_loop.specs.Standing.{Standing}
 use Rattle.conn_loop.specs.Writing.{Writes}
 
@@ -89,6 +91,12 @@ waits_read End waits = waits
 waits_read NotYet waits = min (waits + 1) full
 waits_read Failed waits = waits
 
+-- the size of a content is a number of its type
+abbrev pub SizeFits : Content → Type 0
+SizeFits kept.None = Unit {0}
+SizeFits kept.Empty = Unit {0}
+SizeFits (kept.File size send) = size < 2 ^ 64
+
 -- the front of what is to be written was written
 pub record Sends (end : WriteEnd) (old new : Standing) (link later : LinkTold) : Type 0 where
   pub writes : Writes end old.pending new.pending link later
@@ -106,7 +114,8 @@ pub record AsksToLook (moves : Moves) (old new : Standing) : Type 0 where
   pub a : Asked
   pub behind : ℕ
   pub seen : Seen
-  pub was : old.stage ≡ ready a behind seen
+  pub kept : List ℕ
+  pub was : old.stage ≡ ready a behind seen kept
   pub path : List ℕ
   pub looks : moves (request_of a) seen ≡ look_at path
   pub same : new ≡ record old { stage = wanting a behind seen path }
@@ -116,11 +125,13 @@ pub record Decides (moves : Moves) (response : Response) (old new : Standing) : 
   pub a : Asked
   pub behind : ℕ
   pub seen : Seen
-  pub was : old.stage ≡ ready a behind seen
+  pub path : List ℕ
+  pub was : old.stage ≡ ready a behind seen path
   pub is : answer (outline_of a.target response) ≡ moves (request_of a) seen
   pub fits : Fits a.target seen response
   pub sendable : IsSendable a.target response
-  pub same : new ≡ old
+  pub left : List ℕ
+  pub same : new ≡ record old { stage = ready a behind seen left }
 
 -- what the application does with the request that is whole
 abbrev pub Consults : Moves → Move → (old new : Standing) → Type 0
@@ -139,10 +150,12 @@ pub record Responds (response : Response) (moment : ℕ) (old new : Standing) : 
   pub a : Asked
   pub behind : ℕ
   pub seen : Seen
-  pub was : old.stage ≡ ready a behind seen
+  pub path : List ℕ
+  pub was : old.stage ≡ ready a behind seen path
   pub left : ℕ
   pub counted : old.left ≡ 1 + left
   pub head : List ℕ
+  pub sized : SizeFits response.content
   pub head_is : (reply : Reply) → IsResponseFor a.target response reply → head ≡ head_text (head_of reply) moment (last_word a left)
   pub same : new ≡ record old {
     input = drop (a.len + behind) old.input;
@@ -200,8 +213,25 @@ pub record ReadsPart (folder : Option Folder) (old new : Standing) (files since 
   pub read : ReadPart out files since
   pub same : new ≡ record old { stage = stage_read out at size; pending = new.pending }
 
--- the size of a content is a number of its type
-abbrev pub SizeFits : Content → Type 0
-SizeFits kept.None = Unit {0}
-SizeFits kept.Empty = Unit {0}
-SizeFits (kept.File size send) = size < 2 ^ 64
+-- the look that was asked for found this, and this is the file that is lent
+pub record SeesNext (found : Option (ℕ × ℕ)) (lease : Option (List ℕ)) (old new : Standing) : Type 0 where
+  pub a : Asked
+  pub behind : ℕ
+  pub seen : Seen
+  pub path : List ℕ
+  pub was : old.stage ≡ wanting a behind seen path
+  pub over : old.over ≡ None
+  pub some : 0 < looks_left seen
+  pub same : new ≡ record old { stage = ready a behind (next_seen seen found) path; lease = lease }
+
+-- the look that was asked for couldn't be made
+pub record FailsTo (end : Finish) (old new : Standing) : Type 0 where
+  pub a : Asked
+  pub behind : ℕ
+  pub seen : Seen
+  pub path : List ℕ
+  pub was : old.stage ≡ wanting a behind seen path
+  pub over : old.over ≡ None
+  pub some : 0 < looks_left seen
+  pub left : 0 < old.left
+  pub same : new ≡ record old { stage = unmade end }

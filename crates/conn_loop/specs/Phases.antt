@@ -2,11 +2,11 @@
 use Rattle.std.specs.Prelude.{◌≡◌, ◌⊎◌, ℕ, ◌+◌, ◌≤◌, ◌<◌, List, length, Option, Some, None}
 use Rattle.app_trait.specs.declared.request.Seen.{Seen}
 use Rattle.app_trait.specs.declared.request.Seen.TheVariants.{Nothing, FirstFound, FirstAbsent, SecondFound, SecondAbsent}
-use Rattle.warp_request.specs.declared.limits.TheConstants.{HEAD_LIMIT}
+use Rattle.warp_request.specs.LimitsAndWords.{head_limit}
 use Rattle.warp_request.specs.declared.verdict.HeadInfo.{HeadInfo}
 use Rattle.warp_request.specs.declared.verdict.Next.TheVariants.{Head}
 use Rattle.warp_request.specs.Shown.{LiesIn}
-use Rattle.warp_response.specs.Reply.{HasPhrase}
+use Rattle.warp_response.specs.Statuses.{HasPhrase}
 use Rattle.conn_loop.specs.declared.step.End.{End}
 use Rattle.conn_loop.specs.declared.step.End.TheVariants.{FileFault, NoMemory}
 use Rattle.conn_loop.specs.declared.phase.Phase.{Phase}
@@ -36,7 +36,7 @@ stage_in input path Fresh = unread
 stage_in input path Waits = short
 stage_in input path (Reading head reader room) = reading (asked_in input head) reader room
 stage_in input path (Refused code) = refusing code
-stage_in input path (Ready head behind seen) = ready (asked_in input head) behind seen
+stage_in input path (Ready head behind seen) = ready (asked_in input head) behind seen path
 stage_in input path (Wanting head behind seen) = wanting (asked_in input head) behind seen path
 stage_in input path (Sending at size) = sending at size
 stage_in input path (Unmade end) = unmade end
@@ -50,7 +50,7 @@ IsRefusal code = HasPhrase code × (400 ≤ code)
 -- a head is at the front of the input, and is no longer than a head may be
 pub record HasHead (input : List ℕ) (head : HeadInfo) : Type 0 where
   pub lies : LiesIn input (Head head)
-  pub short : head.head_len ≤ HEAD_LIMIT
+  pub short : head.head_len ≤ head_limit
 
 -- a request whose head is at the front of the input lies in it
 pub record HasRequest (input : List ℕ) (head : HeadInfo) (behind : ℕ) : Type 0 where
@@ -60,7 +60,7 @@ pub record HasRequest (input : List ℕ) (head : HeadInfo) (behind : ℕ) : Type
 -- what is kept fits the input as it lies, where so many final answers may follow
 abbrev pub IsKept : List ℕ → ℕ → Phase → Type 0
 IsKept input left Fresh = Unit {0}
-IsKept input left Waits = length input ≤ HEAD_LIMIT
+IsKept input left Waits = length input ≤ head_limit
 IsKept input left (Reading head reader room) = HasHead input head × HasRoom reader head.framing room
 IsKept input left (Refused code) = IsRefusal code
 IsKept input left (Ready head behind seen) = HasRequest input head behind

@@ -11,11 +11,11 @@ use Rattle.warp_request.specs.declared.verdict.Framing.{Framing}
 use Rattle.warp_request.specs.declared.verdict.Framing.TheVariants as framings
 use Rattle.warp_request.specs.Body.{body_of}
 use Rattle.warp_request.specs.Body as body
-use Rattle.warp_request.specs.BodyReader.{StandsFor}
+use Rattle.warp_request.specs.BodyReader.{Represents as Reads}
 use Rattle.warp_request.specs.Next.{next_of}
 use Rattle.warp_request.specs.Verdict.{Asked, more, asked}
 use Rattle.warp_response.specs.Reply.{Reply}
-use Rattle.warp_request.specs.declared.limits.TheConstants.{HEAD_LIMIT}
+use Rattle.warp_request.specs.LimitsAndWords.{head_limit}
 use Rattle.conn_loop.specs.declared.bodies.TheConstants.{CHUNKED_LIMIT}
 use Rattle.conn_loop.specs.declared.limits.TheConstants.{ROOM}
 use Rattle.conn_loop.specs.Answers.{answers_within, answers_behind}
@@ -32,8 +32,8 @@ pub data Stage : Type 0 where
   -- the input is refused
   refusing : ℕ → Stage
   -- the request whose head is at the front of the input is whole, with so many bytes of the input behind the head, and its
-  -- looks for files have found this
-  ready : Asked → ℕ → Seen → Stage
+  -- looks for files, the last of which was for this path, have found this
+  ready : Asked → ℕ → Seen → List ℕ → Stage
   -- the same, and a look for this path is asked for
   wanting : Asked → ℕ → Seen → List ℕ → Stage
   -- the content of the lease's file, which has this size, is to be sent from this place on
@@ -56,7 +56,7 @@ pub record IsReading (a : Asked) (reader : BodyReader) (input ahead : List ℕ) 
   pub fed : List ℕ
   pub parts : ahead ≡ take a.len input ++ (fed ++ drop a.len input)
   pub inside : a.len ≤ length input
-  pub stands : StandsFor reader a.framing fed
+  pub stands : Reads reader a.framing fed
   pub goes_on : body_of a.framing fed ≡ body.more
   pub asks : (t : List ℕ) → next_of (ahead ++ t) ≡ asked a
 
@@ -80,7 +80,7 @@ LiesAhead unread given input ahead = (given ≡ false) × (ahead ≡ input)
 LiesAhead short given input ahead = (given ≡ false) × (ahead ≡ input) × (next_of input ≡ more)
 LiesAhead (reading a reader room) given input ahead = (given ≡ true) × IsReading a reader input ahead
 LiesAhead (refusing code) given input ahead = (given ≡ true) × ((t : List ℕ) → turn_of (ahead ++ t) ≡ turn.refused code)
-LiesAhead (ready a behind seen) given input ahead = (given ≡ true) × IsReady a behind input ahead
+LiesAhead (ready a behind seen path) given input ahead = (given ≡ true) × IsReady a behind input ahead
 LiesAhead (wanting a behind seen path) given input ahead = (given ≡ true) × IsReady a behind input ahead
 LiesAhead (sending at size) given input ahead = (given ≡ false) × (ahead ≡ input)
 LiesAhead (unmade end) given input ahead = (given ≡ true) × HasWhole ahead
@@ -96,7 +96,7 @@ most_of framings.Chunked = CHUNKED_LIMIT
 -- a reader was fed some bytes of a body of this framing, and at most so many more are its
 pub record HasRoom (reader : BodyReader) (framing : Framing) (room : ℕ) : Type 0 where
   pub fed : List ℕ
-  pub stands : StandsFor reader framing fed
+  pub stands : Reads reader framing fed
   pub counted : length fed + room ≡ most_of framing
 
 -- where it stands when more bytes came: what was too little to say is to be judged anew
@@ -105,7 +105,7 @@ grown unread = unread
 grown short = unread
 grown (reading a reader room) = reading a reader room
 grown (refusing code) = refusing code
-grown (ready a behind seen) = ready a behind seen
+grown (ready a behind seen path) = ready a behind seen path
 grown (wanting a behind seen path) = wanting a behind seen path
 grown (sending at size) = sending at size
 grown (unmade end) = unmade end
@@ -118,7 +118,7 @@ IsBetween unread = Unit {0}
 IsBetween short = Unit {0}
 IsBetween (reading a reader room) = ⊥
 IsBetween (refusing code) = ⊥
-IsBetween (ready a behind seen) = ⊥
+IsBetween (ready a behind seen path) = ⊥
 IsBetween (wanting a behind seen path) = ⊥
 IsBetween (sending at size) = ⊥
 IsBetween (unmade end) = ⊥
@@ -131,7 +131,7 @@ IsReadUp unread input = Unit {0}
 IsReadUp short input = Unit {0}
 IsReadUp (reading a reader room) input = length input ≡ a.len
 IsReadUp (refusing code) input = Unit {0}
-IsReadUp (ready a behind seen) input = Unit {0}
+IsReadUp (ready a behind seen path) input = Unit {0}
 IsReadUp (wanting a behind seen path) input = Unit {0}
 IsReadUp (sending at size) input = Unit {0}
 IsReadUp (unmade end) input = Unit {0}
@@ -141,10 +141,10 @@ IsReadUp finished input = Unit {0}
 -- more bytes are wanted, and there is room for them
 abbrev pub IsWanting : Stage → List ℕ → Type 0
 IsWanting unread input = ⊥
-IsWanting short input = length input ≤ HEAD_LIMIT
-IsWanting (reading a reader room) input = (length input ≤ HEAD_LIMIT) × (length input ≡ a.len)
+IsWanting short input = length input ≤ head_limit
+IsWanting (reading a reader room) input = (length input ≤ head_limit) × (length input ≡ a.len)
 IsWanting (refusing code) input = ⊥
-IsWanting (ready a behind seen) input = ⊥
+IsWanting (ready a behind seen path) input = ⊥
 IsWanting (wanting a behind seen path) input = ⊥
 IsWanting (sending at size) input = ⊥
 IsWanting (unmade end) input = ⊥
@@ -157,7 +157,7 @@ IsReadyStage unread = ⊥
 IsReadyStage short = ⊥
 IsReadyStage (reading a reader room) = ⊥
 IsReadyStage (refusing code) = ⊥
-IsReadyStage (ready a behind seen) = Unit {0}
+IsReadyStage (ready a behind seen path) = Unit {0}
 IsReadyStage (wanting a behind seen path) = ⊥
 IsReadyStage (sending at size) = ⊥
 IsReadyStage (unmade end) = ⊥
@@ -182,7 +182,7 @@ steps_left unread input = body_steps + 2 * (ROOM - length input) + 1
 steps_left short input = body_steps + 2 * (ROOM - length input)
 steps_left (reading a reader room) input = 2 * room + (1 - length (drop a.len input)) + 6
 steps_left (refusing code) input = 0
-steps_left (ready a behind seen) input = 2 * looks_left seen + 1
+steps_left (ready a behind seen path) input = 2 * looks_left seen + 1
 steps_left (wanting a behind seen path) input = 2 * looks_left seen
 steps_left (sending at size) input = (size - at) + (body_steps + 2 * ROOM + 2)
 steps_left (unmade end) input = 0
@@ -195,7 +195,7 @@ HasNoContent unread = Unit {0}
 HasNoContent short = Unit {0}
 HasNoContent (reading a reader room) = Unit {0}
 HasNoContent (refusing code) = Unit {0}
-HasNoContent (ready a behind seen) = Unit {0}
+HasNoContent (ready a behind seen path) = Unit {0}
 HasNoContent (wanting a behind seen path) = Unit {0}
 HasNoContent (sending at size) = ⊥
 HasNoContent (unmade end) = Unit {0}
@@ -218,7 +218,7 @@ unread_at unread folder lease = []
 unread_at short folder lease = []
 unread_at (reading a reader room) folder lease = []
 unread_at (refusing code) folder lease = []
-unread_at (ready a behind seen) folder lease = []
+unread_at (ready a behind seen path) folder lease = []
 unread_at (wanting a behind seen path) folder lease = []
 unread_at (sending at size) folder lease = drop at (leased_bytes folder lease)
 unread_at (unmade end) folder lease = []
@@ -231,7 +231,7 @@ failing unread = None
 failing short = None
 failing (reading a reader room) = None
 failing (refusing code) = None
-failing (ready a behind seen) = None
+failing (ready a behind seen path) = None
 failing (wanting a behind seen path) = None
 failing (sending at size) = None
 failing (unmade end) = Some end
@@ -256,7 +256,7 @@ needs_file unread = false
 needs_file short = false
 needs_file (reading a reader room) = false
 needs_file (refusing code) = false
-needs_file (ready a behind seen) = is_found seen
+needs_file (ready a behind seen path) = is_found seen
 needs_file (wanting a behind seen path) = false
 needs_file (sending at size) = true
 needs_file (unmade end) = false

@@ -6,7 +6,7 @@ use Rattle.outside.specs.Folder.{Folder, Content, file_at}
 use Rattle.warp_request.specs.Verdict.{Asked}
 use Rattle.warp_response.specs.Reply.{sent_bytes}
 use Rattle.app_trait.specs.declared.request.Seen.{Seen}
-use Rattle.app_trait.specs.Moves.{Moves, RequestText, look_at}
+use Rattle.app_trait.specs.Moves.{Moves, PathKept, RequestText, look_at}
 use Rattle.app_trait.specs.ReplyTo.{reply_to, reply_after, SawFound}
 use Rattle.conn_loop.specs.declared.step.Step.{Step}
 use Rattle.conn_loop.specs.declared.step.Step.TheVariants.{Done}
@@ -75,7 +75,7 @@ Looks serving unread lease = Unit {0}
 Looks serving short lease = Unit {0}
 Looks serving (reading a reader room) lease = Unit {0}
 Looks serving (refusing code) lease = Unit {0}
-Looks serving (ready a behind seen) lease = HasLooked serving.moves serving.folder (request_of a) seen lease
+Looks serving (ready a behind seen path) lease = HasLooked serving.moves serving.folder (request_of a) seen lease
 Looks serving (wanting a behind seen path) lease = HasAsked serving.moves serving.folder (request_of a) seen path
 Looks serving (sending at size) lease = IsSending serving lease × (length (leased_bytes serving.folder lease) ≡ size)
 Looks serving (unmade end) lease = Unit {0}
@@ -117,13 +117,13 @@ pub record Stands (serving : Serving) (c : Standing) (taken sent : List ℕ) (en
   pub prefix : SendsPrefix (replies serving) c.moments taken sent
   pub at : HoldsAt (option_map Done c.over) serving c.moments taken sent ended
 
--- the path that is asked for is one that the application looks for
+-- the path that is asked for is one that the application looks for, and it stays until the application is told what was found
 abbrev pub AsksFor : Moves → Stage → Type 0
 AsksFor moves unread = Unit {0}
 AsksFor moves short = Unit {0}
 AsksFor moves (reading a reader room) = Unit {0}
 AsksFor moves (refusing code) = Unit {0}
-AsksFor moves (ready a behind seen) = Unit {0}
+AsksFor moves (ready a behind seen path) = PathKept (moves (request_of a)) seen path
 AsksFor moves (wanting a behind seen path) = moves (request_of a) seen ≡ look_at path
 AsksFor moves (sending at size) = Unit {0}
 AsksFor moves (unmade end) = Unit {0}
@@ -149,7 +149,7 @@ IsAskingStage unread = ⊥
 IsAskingStage short = ⊥
 IsAskingStage (reading a reader room) = ⊥
 IsAskingStage (refusing code) = ⊥
-IsAskingStage (ready a behind seen) = ⊥
+IsAskingStage (ready a behind seen path) = ⊥
 IsAskingStage (wanting a behind seen path) = Unit {0}
 IsAskingStage (sending at size) = ⊥
 IsAskingStage (unmade end) = ⊥
@@ -162,7 +162,7 @@ path_asked_at unread = []
 path_asked_at short = []
 path_asked_at (reading a reader room) = []
 path_asked_at (refusing code) = []
-path_asked_at (ready a behind seen) = []
+path_asked_at (ready a behind seen path) = []
 path_asked_at (wanting a behind seen path) = path
 path_asked_at (sending at size) = []
 path_asked_at (unmade end) = []

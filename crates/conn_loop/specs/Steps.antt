@@ -1,5 +1,5 @@
 -- Inner: how far a part of a call brings a connection: it goes on, or a step is answered.
-use Rattle.std.specs.Prelude.{◌≡◌, ◌≢◌, ◌↔◌, ℕ, ◌+◌, ◌*◌, ◌<◌, List, Bool, Option, Some, None, IfSome}
+use Rattle.std.specs.Prelude.{◌≡◌, ◌≢◌, ◌↔◌, ℕ, ◌+◌, ◌*◌, ◌<◌, ◌≤◌, List, Bool, Option, Some, None, IfSome, length}
 use Rattle.outside.specs.Causes.{LinkTold, KeepsLink}
 use Rattle.outside.specs.FileCauses.{FilesTold}
 use Rattle.conn_loop.specs.declared.step.Step.{Step}
@@ -12,7 +12,6 @@ use Rattle.conn_loop.specs.Stages.{Stage, unread, short, reading, refusing, read
 use Rattle.conn_loop.specs.declared.step.End.{End}
 use Rattle.conn_loop.specs.declared.step.End.TheVariants.{Clean, Cut, ReadFault, WriteFault, FileFault, NoMemory}
 use Rattle.conn_loop.specs.Causes.{HasFault, CountsWaits, Keeps}
-use Rattle.conn_loop.specs.Moves.{SizeFits}
 use Rattle.app_trait.specs.Moves.{Moves}
 use Rattle.app_trait.specs.Shown.{Fits}
 use Rattle.app_trait.specs.declared.app.Move.{Move}
@@ -94,7 +93,7 @@ IsPlain unread = Unit {0}
 IsPlain short = Unit {0}
 IsPlain (reading a reader room) = Unit {0}
 IsPlain (refusing code) = Unit {0}
-IsPlain (ready a behind seen) = Unit {0}
+IsPlain (ready a behind seen path) = Unit {0}
 IsPlain (wanting a behind seen path) = ⊥
 IsPlain (sending at size) = ⊥
 IsPlain (unmade end) = ⊥
@@ -107,7 +106,7 @@ IsBegun unread = ⊥
 IsBegun short = ⊥
 IsBegun (reading a reader room) = Unit {0}
 IsBegun (refusing code) = Unit {0}
-IsBegun (ready a behind seen) = seen ≡ Nothing
+IsBegun (ready a behind seen path) = seen ≡ Nothing
 IsBegun (wanting a behind seen path) = ⊥
 IsBegun (sending at size) = ⊥
 IsBegun (unmade end) = ⊥
@@ -124,7 +123,7 @@ IsSendingOut unread = Unit {0}
 IsSendingOut short = ⊥
 IsSendingOut (reading a reader room) = ⊥
 IsSendingOut (refusing code) = ⊥
-IsSendingOut (ready a behind seen) = ⊥
+IsSendingOut (ready a behind seen path) = ⊥
 IsSendingOut (wanting a behind seen path) = ⊥
 IsSendingOut (sending at size) = Unit {0}
 IsSendingOut (unmade end) = ⊥
@@ -133,12 +132,15 @@ IsSendingOut finished = ⊥
 
 -- the request that is whole can be answered by this response
 abbrev pub CanSend : Response → Stage → Type 0
-CanSend response stage = (a : Asked) × (behind : ℕ) × (seen : Seen) × (stage ≡ ready a behind seen) × Fits a.target seen response × IsSendable a.target response
+CanSend response stage = (a : Asked) × (behind : ℕ) × (seen : Seen) × (path : List ℕ) × (stage ≡ ready a behind seen path) × Fits a.target seen response × IsSendable a.target response
 
--- the size of a content that an application answers is a number of its type
-abbrev pub FitsSize : Move → Type 0
-FitsSize Look = Unit {0}
-FitsSize (Answer response) = SizeFits response.content
+-- the target of the request that is whole has this length
+abbrev pub HasTarget : ℕ → Stage → Type 0
+HasTarget n stage = (a : Asked) × (behind : ℕ) × (seen : Seen) × (path : List ℕ) × (stage ≡ ready a behind seen path) × (n ≡ length a.target)
+
+-- there is room for any head that answers the request that is whole
+abbrev pub HasWay : Standing → Type 0
+HasWay c = (a : Asked) × (behind : ℕ) × (seen : Seen) × (path : List ℕ) × (c.stage ≡ ready a behind seen path) × (length c.pending + (512 + 2 * length a.target) ≤ 16896)
 
 -- what an application answers can be sent
 abbrev pub SendableMove : List ℕ → Move → Type 0
@@ -148,7 +150,7 @@ SendableMove target (Answer response) = IsSendable target response
 -- what a connection is to do next
 abbrev pub DutyOf : Duty → Standing → Type 0
 DutyOf Duties.Answer c = (0 < c.left) × IsPlain c.stage
-DutyOf Duties.Wait c = IsAsking c
+DutyOf Duties.Wait c = IsAsking c × (0 < c.left)
 DutyOf Duties.Send c = IsSendingStage c.stage
 DutyOf (Duties.End end) c = MayEnd end c × ¬ IsAsking c
 

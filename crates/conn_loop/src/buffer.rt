@@ -114,10 +114,8 @@ impl Buffer {
         ensures size { lease.new.size ≡ lease.old.size }
         ensures read { ReadPart result (F.told files.old) (F.told files.new) }
     {
-        let start = make_room(&mut self.room, self.start, self.end, n);
-        let long = self.end - self.start;
-        let out = part_behind(files, lease, at, &mut self.room, start + long, n);
-        self.end = start + long + part_len(out);
+        let (start, out) = part_behind(files, lease, at, &mut self.room, self.start, self.end, n);
+        self.end = start + (self.end - self.start) + part_len(out);
         self.start = start;
         out
     }
@@ -138,13 +136,22 @@ fn make_room(room: &mut Vec<u8>, start: usize, end: usize, more: usize) -> usize
     if more <= room.len() - end {
         return start;
     }
-    if start > 0 {
-        room.copy_within(start..end, 0);
-    }
+    move_to_front(room, start, end);
     if room.len() < long + more {
         widen(room, long + more);
     }
     0
+}
+
+/// Moves the bytes from `start` to `end` to the front.
+fn move_to_front(room: &mut Vec<u8>, start: usize, end: usize)
+    requires order { start ≤ end }
+    requires inside { end ≤ vec_len room.old }
+    ensures same { take (end - start) room.new.items ≡ take (end - start) (drop start room.old.items) }
+    ensures long { vec_len room.new ≡ vec_len room.old }
+    ensures bounded { vec_capacity room.old ≤ vec_capacity room.new }
+{
+    room.copy_within(start..end, 0);
 }
 
 /// Widens the room, so that it has at least so many bytes. Those that were there stay.
@@ -245,8 +252,37 @@ fn read_at<L: Link>(link: &mut L, room: &mut [u8], at: usize) -> ReadOut
     link.read(&mut room[at..])
 }
 
-/// Reads at most `n` bytes of a file into the room from `at` on.
+/// Reads at most `n` bytes of a file behind the bytes from `start` to `end`. The result is where these start afterwards.
 fn part_behind<F: Files>(
+    files: &mut F,
+    lease: &mut Lease<F>,
+    from: u64,
+    room: &mut Vec<u8>,
+    start: usize,
+    end: usize,
+    n: usize,
+) -> (usize, PartOut)
+    requires some { 0 < n }
+    requires order { start ≤ end }
+    requires inside { end ≤ vec_len room.old }
+    requires fits { (end - start) + n ≤ ROOM }
+    requires bounded { (vec_len room.old ≤ ROOM) × (ROOM ≤ vec_capacity room.old) }
+    requires there { from < lease.old.size }
+    ensures takes { TakesPart F.folder (F.file_path lease.old.file) from n result.1 (take (end - start) (drop start room.old.items))
+        (take (end - start + part_len result.1) (drop result.0 room.new.items)) }
+    ensures fits { result.0 + (end - start) + part_len result.1 ≤ vec_len room.new }
+    ensures bounded { (vec_len room.new ≤ ROOM) × (ROOM ≤ vec_capacity room.new) }
+    ensures path { F.file_path lease.new.file ≡ F.file_path lease.old.file }
+    ensures size { lease.new.size ≡ lease.old.size }
+    ensures read { ReadPart result.1 (F.told files.old) (F.told files.new) }
+{
+    let start_now = make_room(room, start, end, n);
+    let out = part_at(files, lease, from, room, start_now + (end - start), n);
+    (start_now, out)
+}
+
+/// Reads at most `n` bytes of a file into the room from `at` on.
+fn part_at<F: Files>(
     files: &mut F,
     lease: &mut Lease<F>,
     from: u64,

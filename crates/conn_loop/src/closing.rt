@@ -1,5 +1,5 @@
 //! Whether an answer closes the connection, and the moment that is noted for it.
-ghost use Rattle.std.specs.Prelude.{◌≡◌, ◌≤◌, ◌<◌, ◌++◌, ◌∷◌, ℕ, List, [], if◌then◌else◌, vec_len, vec_capacity};
+ghost use Rattle.std.specs.Prelude.{◌≡◌, ◌≤◌, ◌<◌, ◌+◌, ◌++◌, ◌∷◌, ℕ, List, [], if◌then◌else◌, vec_len, vec_capacity};
 ghost use Rattle.conn_loop.specs.Answers.{closes as closes_of, last_word as last_word_of};
 ghost use Rattle.conn_loop.specs.Heads.{asked_in};
 
@@ -30,7 +30,8 @@ pub(crate) fn last_word(head: &HeadInfo, left: u32) -> LastWord
 
 /// How many final answers may follow this one: none where it closes.
 pub(crate) fn left_after(head: &HeadInfo, left: u32) -> u32
-    ensures { (input : List ℕ) → result ≡ (if closes_of (asked_in input head.now) left then 0 else left) }
+    ensures is { (input : List ℕ) → result ≡ (if closes_of (asked_in input head.now) left then 0 else left) }
+    ensures fewer { result ≤ left }
 {
     if closes(head, left) { 0 } else { left }
 }
@@ -40,6 +41,7 @@ pub(crate) fn note(moments: &mut Vec<u64>, moment: u64)
     requires { vec_len moments.old < vec_capacity moments.old }
     ensures items { moments.new.items ≡ moments.old.items ++ moment ∷ [] }
     ensures room { vec_capacity moments.old ≤ vec_capacity moments.new }
+    ensures len { vec_len moments.new ≡ vec_len moments.old + 1 }
 {
     if moments.push(moment).is_err() {
         unreachable!()

@@ -133,7 +133,8 @@ impl<F: Files> Conn<F> {
 
     /// How the connection ended, once it has.
     fn over(&self) -> Option<End>
-        ensures { result ≡ self.now.over }
+        ensures is { result ≡ self.now.over }
+        ensures quiet { IfSome result (λ end. ¬ IsAsking self.now) }
     {
         match self.phase {
             Phase::Over(end) => Some(end),
@@ -228,6 +229,7 @@ impl<F: Files> Conn<F> {
     ) -> Option<Step>
         requires some { 0 < self.old.left }
         requires plain { IsPlain self.old.stage }
+        requires asks { AsksFor (A.moves app.now) self.old.stage }
         ensures stands { ComesFor None (serving_over (A.moves app.now) F.folder) self.old (L.told link.old)
             → ComesFor result (serving_over (A.moves app.now) F.folder) self.new (L.told link.new) }
         ensures proceeds { Proceeds (A.moves app.now) result self.old self.new }

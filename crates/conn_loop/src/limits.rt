@@ -11,3 +11,6 @@ pub(crate) const ROOM: usize = 16_896;
 
 /// The first bytes of a buffer's room, which are all of it that most connections touch.
 pub(crate) const FIRST_ROOM: usize = 1_024;
+
+/// More bytes than a head has besides its Location, which repeats at most two spans of the target.
+pub(crate) const HEAD_ROOM: usize = 512;

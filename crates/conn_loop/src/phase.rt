@@ -1,10 +1,13 @@
 //! What a connection keeps of its input between calls, so that no input is parsed twice and no body is kept.
 ghost use Rattle.std.specs.Prelude.{◌≡◌, ◌≤◌, List, ℕ, Option, length};
 ghost use Rattle.conn_loop.specs.Phases.{IsKept, HasLease, over_in, stage_in};
+ghost use Rattle.conn_loop.specs.Moves.{got_len};
 ghost use Rattle.conn_loop.specs.Stages.{grown};
+ghost use Rattle.conn_loop.specs.Steps.{stage_after};
 
 use crate::step::End;
 use app_trait::Seen;
+use outside::ReadOut;
 use warp_request::{BodyReader, HeadInfo};
 
 /// Where a connection stands.
@@ -53,8 +56,22 @@ pub(crate) enum Phase {
 }
 
 impl Phase {
+    /// What was read behind the input is judged anew, where what was there was too little to say.
+    pub(crate) fn read(&mut self, out: ReadOut)
+        ensures stage { (input path : List ℕ) → stage_in input path self.new ≡ stage_after out (stage_in input path self.old) }
+        ensures over { over_in self.new ≡ over_in self.old }
+        ensures lease { (size : Option ℕ) → HasLease self.old size → HasLease self.new size }
+        ensures kept { (input longer : List ℕ) (left : ℕ) → length input ≤ length longer → (got_len out ≡ 0 → longer ≡ input)
+            → IsKept input left self.old → IsKept longer left self.new }
+    {
+        match out {
+            ReadOut::Got(_) => self.more_came(),
+            ReadOut::End | ReadOut::NotYet | ReadOut::Failed => {}
+        }
+    }
+
     /// More bytes came behind the input: what was too little to say is to be judged anew.
-    pub(crate) fn more_came(&mut self)
+    fn more_came(&mut self)
         ensures stage { (input path : List ℕ) → stage_in input path self.new ≡ grown (stage_in input path self.old) }
         ensures over { over_in self.new ≡ over_in self.old }
         ensures lease { (size : Option ℕ) → HasLease self.old size → HasLease self.new size }

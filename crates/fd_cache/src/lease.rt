@@ -1,7 +1,7 @@
 //! What a cache hands out.
 ghost use Rattle.std.specs.Prelude.{◌≡◌, ◌<◌, IfSome, length};
 ghost use Rattle.outside.specs.FileCauses.{PartWithin, ReadPart, ReadsFrom};
-ghost use Rattle.fd_cache.specs.Lent.{HasFile};
+ghost use Rattle.outside.specs.Folder.{HasFile};
 ghost use Rattle.std.proofs.Props.{props};
 
 use outside::{Files, PartOut};
@@ -12,7 +12,7 @@ pub struct Lease<F: Files> {
     pub file: F::File,
     pub size: u64,
     pub mtime: u64,
-    pub ghost told: { HasFile F.folder (F.file_path file) size mtime } by { Prim.hlevel props },
+    pub ghost there: { HasFile F.folder (F.file_path file) size mtime } by { Prim.hlevel props },
 }
 
 impl<F: Files> Lease<F> {
@@ -23,8 +23,7 @@ impl<F: Files> Lease<F> {
         ensures within { PartWithin result buf.new }
         ensures reads { IfSome F.folder (λ f. ReadsFrom f (F.file_path self.old.file) at buf.new result) }
         ensures path { F.file_path self.new.file ≡ F.file_path self.old.file }
-        ensures size { self.new.size ≡ self.old.size }
-        ensures mtime { self.new.mtime ≡ self.old.mtime }
+        ensures same { (self.new.size ≡ self.old.size) × (self.new.mtime ≡ self.old.mtime) }
         ensures read { ReadPart result (F.told files.old) (F.told files.new) }
     {
         files.read_at(&mut self.file, at, buf)

@@ -1,5 +1,5 @@
 // The heads of answers.
-ghost use Rattle.std.specs.Prelude.{◌≡◌, ◌≤◌, ◌<◌, ◌+◌, ◌++◌, ℕ, None, length};
+ghost use Rattle.std.specs.Prelude.{◌≡◌, ◌≤◌, ◌<◌, ◌+◌, ◌*◌, ◌++◌, ℕ, None, length};
 ghost use Rattle.warp_response.specs.Head.{status_line, head_text, longest_head, longest_head_without_place};
 ghost use Rattle.warp_response.specs.Reply.{Reply, IsSendable, IsResponseFor, content_length, head_shown, head_of};
 ghost use Rattle.warp_response.specs.Statuses.{HasPhrase};
@@ -55,6 +55,7 @@ pub fn head_bytes(
     requires { IsSendable target.now response.now }
     ensures head { out.new ≡ head_text (head_shown target.now response.now) moment last }
     ensures long { length out.new ≤ longest_head }
+    ensures within { length out.new ≤ 512 + 2 * length target.now }
     ensures short { response.now.place ≡ None → length out.new ≤ longest_head_without_place }
     ensures reply { (reply : Reply) → IsResponseFor target.now response.now reply → out.new ≡ head_text (head_of reply) moment last }
 {

@@ -1,14 +1,15 @@
 //! What a connection answers: the application is consulted, and heads and refusals are made.
-ghost use Rattle.std.specs.Prelude.{◌≡◌, ◌≤◌, ◌<◌, ◌+◌, ◌∷◌, ℕ, [], Option, Some, None, IfNone, IsSome, length};
+ghost use Rattle.std.specs.Prelude.{◌≡◌, ◌≤◌, ◌<◌, ◌+◌, ◌^◌, ◌∷◌, ℕ, [], None, IfNone, length};
 ghost use Rattle.outside.specs.Moments.{Gives};
-ghost use Rattle.app_trait.specs.Moves.{text_of};
+ghost use Rattle.app_trait.specs.Moves.{PathKept, text_of};
 ghost use Rattle.app_trait.specs.Shown.{FitsMove, move_shown};
 ghost use Rattle.conn_loop.specs.Causes.{Clocked};
-ghost use Rattle.conn_loop.specs.Moves.{Consults, Refuses, Responds, MakesHead};
+ghost use Rattle.conn_loop.specs.Moves.{Consults, Refuses, Responds, MakesHead, SizeFits};
 ghost use Rattle.conn_loop.specs.Phases.{IsRefusal};
 ghost use Rattle.conn_loop.specs.Replying.{serving_over};
-ghost use Rattle.conn_loop.specs.Stages.{IsReadyStage};
-ghost use Rattle.conn_loop.specs.Steps.{ComesFor, FitsSize, Goes, Proceeds, CanSend, SendableMove, to_go};
+ghost use Rattle.conn_loop.specs.Stages.{refusing, IsReadyStage};
+ghost use Rattle.conn_loop.specs.Standing.{AsksFor};
+ghost use Rattle.conn_loop.specs.Steps.{ComesFor, Goes, HasWay, Proceeds, CanSend, SendableMove, to_go};
 
 use super::Conn;
 use crate::closing::{last_word, left_after, note};
@@ -29,9 +30,9 @@ impl<F: Files> Conn<F> {
         clock: &mut C,
         scratch: &mut Scratch,
     ) -> Option<Step>
-        requires room { length self.old.pending < 16384 }
         requires some { 0 < self.old.left }
         requires ready { IsReadyStage self.old.stage }
+        requires asks { AsksFor (A.moves app.now) self.old.stage }
         ensures stands { ComesFor None (serving_over (A.moves app.now) F.folder) self.old (L.told link.old)
             → ComesFor result (serving_over (A.moves app.now) F.folder) self.new (L.told link.new) }
         ensures proceeds { Proceeds (A.moves app.now) result self.old self.new }
@@ -39,12 +40,12 @@ impl<F: Files> Conn<F> {
         ensures clocked { Clocked self.old self.new (C.told clock.old) (C.told clock.new) }
         ensures goes { Goes result self.old self.new (L.told link.old) (L.told link.new) }
     {
+        if let Some(step) = self.make_way(link) {
+            return Some(step);
+        }
         match self.consult(app) {
             Move::Look => Some(Step::WantFile),
             Move::Answer(response) => {
-                if let Some(step) = self.make_way(link, &response) {
-                    return Some(step);
-                }
                 self.answer(clock, scratch, &response);
                 None
             }
@@ -55,8 +56,8 @@ impl<F: Files> Conn<F> {
     fn consult<A: App>(&mut self, app: &A) -> Move
         requires some { 0 < self.old.left }
         requires ready { IsReadyStage self.old.stage }
-        ensures consults { Consults (A.moves app.now) result self.old self.new }
-        ensures fits { FitsSize result }
+        requires asks { AsksFor (A.moves app.now) self.old.stage }
+        ensures { Consults (A.moves app.now) result self.old self.new }
     {
         let Phase::Ready { head, behind, seen } = self.phase else {
             unreachable!()
@@ -79,7 +80,7 @@ impl<F: Files> Conn<F> {
     /// Makes the head of the answer to the request that is whole, at the moment that the clock gives. The content follows
     /// part by part.
     fn answer<C: Clock>(&mut self, clock: &mut C, scratch: &mut Scratch, response: &Response)
-        requires room { (length self.old.pending < 16384) × (IsSome response.now.place → self.old.pending ≡ []) }
+        requires room { HasWay self.old }
         requires some { 0 < self.old.left }
         requires sendable { CanSend response.now self.old.stage }
         ensures { (moment : ℕ) × Responds response.now moment self.old self.new × Gives (moment ∷ []) (C.told clock.old) (C.told clock.new) }
@@ -87,11 +88,13 @@ impl<F: Files> Conn<F> {
         let Phase::Ready {
             head,
             behind,
-            seen: _seen,
+            seen,
         } = self.phase
         else {
             unreachable!()
         };
+        // What was seen is named for the proof alone.
+        let _found = seen;
         let moment = clock.now();
         let left = self.left - 1;
         let target = head.target.of(self.input.bytes());
@@ -108,6 +111,7 @@ impl<F: Files> Conn<F> {
         requires room { length self.old.pending < 16384 }
         requires some { 0 < self.old.left }
         requires phrase { IsRefusal code }
+        requires refusing { self.old.stage ≡ refusing code }
         ensures { (moment : ℕ) × Refuses code moment self.old self.new × Gives (moment ∷ []) (C.told clock.old) (C.told clock.new) }
     {
         let moment = clock.now();
@@ -121,21 +125,34 @@ impl<F: Files> Conn<F> {
 
 /// Where a connection stands once the head with this content was made.
 fn phase_behind(content: Content) -> Phase
-    ensures { MakesHead content result }
+    ensures makes { MakesHead content result }
+    ensures sized { SizeFits content }
 {
     match content {
-        Content::File { size, send: true } if size > 0 => Phase::Sending { at: 0, size },
-        _ => Phase::Fresh,
+        Content::File { size, send } => sending_of(size, send),
+        Content::None | Content::Empty => Phase::Fresh,
+    }
+}
+
+/// Where a connection stands once the head of a file of this size was made, whose content is sent or isn't.
+fn sending_of(size: u64, send: bool) -> Phase
+    ensures makes { MakesHead (Content.File size send) result }
+    ensures sized { size < 2 ^ 64 }
+{
+    if send && size > 0 {
+        Phase::Sending { at: 0, size }
+    } else {
+        Phase::Fresh
     }
 }
 
 /// What the application does with a request once this was seen.
 fn next_move<A: App>(app: &A, request: &Request<'_>, seen: Seen, path: &mut PathBuf8) -> Move
-    requires { length request.now.target.now ≤ 8192 }
+    requires short { length request.now.target.now ≤ 8192 }
+    requires kept { PathKept (A.moves app.now (text_of request.now)) seen path.old }
     ensures is { move_shown request.now.target.now result path.new ≡ A.moves app.now (text_of request.now) seen }
     ensures fits { FitsMove request.now.target.now seen result }
     ensures sendable { SendableMove request.now.target.now result }
-    ensures size { FitsSize result }
 {
     app.reply(request, seen, path)
 }

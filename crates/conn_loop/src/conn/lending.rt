@@ -1,10 +1,11 @@
 //! What goes between a connection and the one who keeps files.
-ghost use Rattle.std.specs.Prelude.{◌≡◌, ◌<◌, ℕ, List, None, option_map};
+ghost use Rattle.std.specs.Prelude.{◌≡◌, ◌⊎◌, ◌<◌, ℕ, List, Some, None, option_map};
 ghost use Rattle.outside.specs.Causes.{LinkTold};
 ghost use Rattle.app_trait.specs.Moves.{EndsWithTwo, Moves};
 ghost use Rattle.conn_loop.specs.Standing.{Represents, IsAsking, path_asked};
 ghost use Rattle.conn_loop.specs.Stages.{needs_file};
 ghost use Rattle.conn_loop.specs.Phases.{stage_in};
+ghost use Rattle.conn_loop.specs.Moves.{FailsTo, SeesNext};
 ghost use Rattle.conn_loop.specs.Supplies.{Supplies, Holds, GivesLease};
 ghost use Rattle.conn_loop.specs.Steps.{to_go};
 
@@ -37,23 +38,59 @@ impl<F: Files> Conn<F> {
         ensures holds { Holds (λ lease. F.file_path lease.file) got self.new × ¬ IsAsking self.new }
         ensures nearer { to_go self.new < to_go self.old }
     {
+        match got {
+            Supply::Leased(lease) => self.found(lease),
+            Supply::Absent => self.missed(),
+            Supply::Failed => self.fail(End::FileFault),
+            Supply::NoMemory => self.fail(End::NoMemory),
+        }
+    }
+
+    /// The look that was asked for found a file.
+    fn found(&mut self, lease: Lease<F>)
+        requires asking { IsAsking self.old }
+        requires none_spent { self.old.lease ≡ None }
+        ensures { SeesNext (Some (lease.size, lease.mtime)) (Some (F.file_path lease.file)) self.old self.new }
+    {
         let Phase::Wanting { head, behind, seen } = self.phase else {
             unreachable!()
         };
-        self.phase = match got {
-            Supply::Leased(lease) => {
-                let seen = seen.found(lease.size, lease.mtime);
-                self.lease = Some(lease);
-                Phase::Ready { head, behind, seen }
-            }
-            Supply::Absent => Phase::Ready {
-                head,
-                behind,
-                seen: seen.absent(),
-            },
-            Supply::Failed => Phase::Unmade(End::FileFault),
-            Supply::NoMemory => Phase::Unmade(End::NoMemory),
+        let seen_now = seen.found(lease.size, lease.mtime);
+        self.lease = Some(lease);
+        self.phase = Phase::Ready {
+            head,
+            behind,
+            seen: seen_now,
         };
+    }
+
+    /// The look that was asked for found nothing.
+    fn missed(&mut self)
+        requires asking { IsAsking self.old }
+        requires none_spent { self.old.lease ≡ None }
+        ensures { SeesNext None None self.old self.new }
+    {
+        let Phase::Wanting { head, behind, seen } = self.phase else {
+            unreachable!()
+        };
+        let seen_now = seen.absent();
+        self.phase = Phase::Ready {
+            head,
+            behind,
+            seen: seen_now,
+        };
+    }
+
+    /// The look that was asked for couldn't be made: the connection is to end so.
+    fn fail(&mut self, end: End)
+        requires asking { IsAsking self.old }
+        requires fault { (end ≡ End.FileFault) ⊎ (end ≡ End.NoMemory) }
+        ensures { FailsTo end self.old self.new }
+    {
+        let Phase::Wanting { .. } = self.phase else {
+            unreachable!()
+        };
+        self.phase = Phase::Unmade(end);
     }
 
     /// Gives a lease that isn't needed any more. The caller asks after each `advance`.

@@ -9,6 +9,8 @@ ghost use Rattle.conn_loop.specs.Moves.{Takes, waits_read};
 ghost use Rattle.conn_loop.specs.Phases.{AheadOf, HasHead};
 ghost use Rattle.conn_loop.specs.Replying.{Serving};
 ghost use Rattle.conn_loop.specs.Stages.{unread, IsBetween, IsReadUp, IsWanting};
+ghost use Rattle.app_trait.specs.Moves.{Moves};
+ghost use Rattle.conn_loop.specs.Standing.{AsksFor};
 ghost use Rattle.conn_loop.specs.Steps.{ComesFor, Goes, IsPlain, stage_after, to_go};
 
 use super::Conn;
@@ -27,6 +29,7 @@ impl<F: Files> Conn<F> {
         requires plain { IsPlain self.old.stage }
         ensures stands { (serving : Option Serving) (link : LinkTold) → ComesFor None serving self.old link → ComesFor None serving self.new link }
         ensures is { AheadOf result self.new.stage self.new.input }
+        ensures asks { (moves : Moves) → AsksFor moves self.old.stage → AsksFor moves self.new.stage }
         ensures nearer { to_go self.new ≤ to_go self.old }
         ensures same { self.new ≡ record self.old { input = self.new.input; stage = self.new.stage } }
     {
@@ -40,6 +43,7 @@ impl<F: Files> Conn<F> {
         ensures stands { (serving : Option Serving) (link : LinkTold) → ComesFor None serving self.old link → ComesFor None serving self.new link }
         ensures read { IsReadUp self.new.stage self.new.input }
         ensures plain { IsPlain self.new.stage }
+        ensures asks { (moves : Moves) → AsksFor moves self.old.stage → AsksFor moves self.new.stage }
         ensures nearer { to_go self.new ≤ to_go self.old }
         ensures same { self.new ≡ record self.old { input = self.new.input; stage = self.new.stage } }
     {
@@ -73,7 +77,7 @@ impl<F: Files> Conn<F> {
         requires some { 0 < self.old.left }
         requires unread { self.old.stage ≡ unread }
         ensures stands { (serving : Option Serving) (link : LinkTold) → ComesFor None serving self.old link → ComesFor None serving self.new link }
-        ensures plain { IsPlain self.new.stage }
+        ensures plain { IsPlain self.new.stage × ((moves : Moves) → AsksFor moves self.new.stage) }
         ensures nearer { to_go self.new < to_go self.old }
         ensures same { self.new ≡ record self.old { input = self.new.input; stage = self.new.stage; pending = self.new.pending } }
     {
@@ -92,7 +96,7 @@ impl<F: Files> Conn<F> {
         requires inside { HasHead self.old.input head }
         requires asks { (t : List ℕ) → next_of (self.old.input ++ t) ≡ asked (asked_in self.old.input head) }
         ensures stands { (serving : Option Serving) (link : LinkTold) → ComesFor None serving self.old link → ComesFor None serving self.new link }
-        ensures plain { IsPlain self.new.stage }
+        ensures plain { IsPlain self.new.stage × ((moves : Moves) → AsksFor moves self.new.stage) }
         ensures nearer { to_go self.new < to_go self.old }
         ensures same { self.new ≡ record self.old { input = self.new.input; stage = self.new.stage; pending = self.new.pending } }
     {
@@ -108,7 +112,7 @@ impl<F: Files> Conn<F> {
         requires some { 0 < self.old.left }
         requires wanting { IsWanting self.old.stage self.old.input }
         ensures stands { (serving : Option Serving) → ComesFor None serving self.old (L.told link.old) → ComesFor result serving self.new (L.told link.new) }
-        ensures plain { IsPlain self.new.stage }
+        ensures plain { IsPlain self.new.stage × ((moves : Moves) → AsksFor moves self.new.stage) }
         ensures nearer { (to_go self.new ≤ to_go self.old) × IfNone result (to_go self.new < to_go self.old) }
         ensures same { self.new ≡ record self.old { input = self.new.input; stage = self.new.stage; pending = self.new.pending; bytes = self.new.bytes; waits = self.new.waits } }
         ensures goes { Goes result self.old self.new (L.told link.old) (L.told link.new) }
@@ -133,9 +137,7 @@ impl<F: Files> Conn<F> {
         ensures same { self.new ≡ record self.old { input = self.new.input; stage = stage_after result self.old.stage; waits = waits_read result self.old.waits } }
     {
         let out = self.input.fill(link);
-        if let ReadOut::Got(_) = out {
-            self.phase.more_came();
-        }
+        self.phase.read(out);
         self.waits = waits_behind(out, self.waits);
         out
     }

@@ -1,16 +1,17 @@
 //! How a connection writes what was made, and ends.
-ghost use Rattle.std.specs.Prelude.{◌≡◌, ◌<◌, [], Option, Some, None, IfNone, IsSome, length};
+ghost use Rattle.std.specs.Prelude.{◌≡◌, ◌≤◌, ◌<◌, [], Option, Some, None, IfNone, length};
 ghost use Rattle.conn_loop.specs.Moves.{Sends, waits_after};
 ghost use Rattle.conn_loop.specs.Replying.{Serving};
+ghost use Rattle.conn_loop.specs.Stages.{IsReadyStage};
 ghost use Rattle.conn_loop.specs.Standing.{IsAsking};
-ghost use Rattle.conn_loop.specs.Steps.{ComesFor, Goes, MayEnd, EndsWith};
+ghost use Rattle.conn_loop.specs.Steps.{ComesFor, Goes, HasTarget, HasWay, MayEnd, EndsWith};
 
 use super::Conn;
-use crate::limits::PIECE;
+use crate::limits::{HEAD_ROOM, PIECE, ROOM};
+use crate::phase::Phase;
 use crate::step::{End, Step};
 use crate::writing::{WriteEnd, write_out};
 use outside::{Files, Link};
-use warp_response::Response;
 
 impl<F: Files> Conn<F> {
     /// Writes what was made, and then ends the connection. The caller owes that this is how it ends.
@@ -41,19 +42,32 @@ impl<F: Files> Conn<F> {
         }
     }
 
-    /// Writes what was made before the head of this response is, if it may be a long one: one with a Location.
-    pub(super) fn make_way<L: Link>(&mut self, link: &mut L, response: &Response) -> Option<Step>
-        requires room { length self.old.pending < 16384 }
+    /// Writes what was made, where the head of the answer to the request that is whole might not fit behind it: a head with
+    /// a Location repeats at most two spans of the target.
+    pub(super) fn make_way<L: Link>(&mut self, link: &mut L) -> Option<Step>
+        requires ready { IsReadyStage self.old.stage }
         ensures stands { (serving : Option Serving) → ComesFor None serving self.old (L.told link.old) → ComesFor result serving self.new (L.told link.new) }
-        ensures room { IfNone result ((length self.new.pending < 16384) × (IsSome response.now.place → self.new.pending ≡ [])) }
+        ensures room { IfNone result (HasWay self.new) }
         ensures same { self.new ≡ record self.old { pending = self.new.pending; bytes = self.new.bytes; waits = self.new.waits } }
         ensures goes { Goes result self.old self.new (L.told link.old) (L.told link.new) }
     {
-        if response.place.is_some() {
-            self.write_due(link)
-        } else {
+        if self.output.bytes().len() + HEAD_ROOM + 2 * self.target_len() <= ROOM {
             None
+        } else {
+            self.write_due(link)
         }
+    }
+
+    /// The length of the target of the request that is whole.
+    fn target_len(&self) -> usize
+        requires ready { IsReadyStage self.now.stage }
+        ensures is { HasTarget result self.now.stage }
+        ensures short { result ≤ 8192 }
+    {
+        let Phase::Ready { head, .. } = self.phase else {
+            unreachable!()
+        };
+        head.target.of(self.input.bytes()).len()
     }
 
     /// Writes what was made. `None` comes where all of it is written.
