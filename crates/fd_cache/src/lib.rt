@@ -1,6 +1,0 @@
-//! A stub.
-#![tactic(auto)]
-
-mod lease;
-
-pub use lease::Lease;
