@@ -1,31 +1,23 @@
 -- Each step keeps the rule.
-use Rattle.std.proofs.Common.{◌≡◌, ◌≢◌, ℕ, zero, suc, ◌+◌, ◌*◌, ◌^◌, ◌<◌, ◌≤◌, ◌⊎◌, inl, inr, ⊎_elim, List, [], ◌∷◌, ◌++◌, length, set, get_or, Bool, true, false, refl, sym, ap, ◌∙◌, subst, eqb, arith}
-use Rattle.std.specs.Prelude.{Option, Some, None}
+use Rattle.std.proofs.Common.{◌≡◌, ◌≢◌, ℕ, zero, suc, ◌+◌, ◌*◌, ◌≤◌, ◌⊎◌, ⊎_elim, List, [], ◌∷◌, ◌++◌, length, set, get_or, refl, sym, ap, ◌∙◌, subst, arith}
+use Rattle.std.specs.Prelude.{Option}
 use Rattle.std.proofs.lemmas.List.{append_assoc, append-nil, length-set, set-get_or}
 use mathlib.Core.Option as maths
 use mathlib.Core.Option.{some, some-injective, some-ne-none}
 use lib.ListN.{get_elem?}
-use native.Mathlib.Decide.{ℕ_discrete}
-use prog.Atomic.{either}
-use Rattle.atomic_table.specs.Table.{State, Me, Step, step, keeps, takes, gives, put_back, rest, Valid, stepped, Allows}
-use Rattle.atomic_table.proofs.Lists.{at_set, at_index, set_here, set_else, exchanged}
+use Rattle.atomic_table.specs.Table.{State}
+use Rattle.atomic_table.proofs.Lists.{at_set, set_else}
 use Rattle.reg_keys.specs.declared.Opening.{Opening}
-use Rattle.timeout_mgr.specs.declared.view.WatchName.{WatchName}
 use Rattle.timeout_mgr.specs.declared.view.WatchEntry.{WatchEntry}
-use Rattle.timeout_mgr.specs.declared.view.WatchEntry.TheVariants.{Added, Tickled, Cancelled, Swept}
 use Rattle.timeout_mgr.specs.declared.view.Shown.{Shown}
 use Rattle.timeout_mgr.specs.declared.view.Holding.{Holding}
 use Rattle.timeout_mgr.specs.declared.view.Holding.TheVariants.{Idle, Holds}
 use Rattle.timeout_mgr.specs.declared.view.TimeView.{TimeView}
-use Rattle.timeout_mgr.specs.Watches.{WatchLog, Status, Unborn, Lives, Ended, name_of, is_alive, after, status, IsWatchAnswer, before, IsWatchHistory}
-use Rattle.timeout_mgr.specs.Rule.{used, status_at, Home, At, IsPlace, HasLeft, Apart, IsKept, Tells, both_of}
+use Rattle.timeout_mgr.specs.Watches.{WatchLog, IsWatchHistory}
+use Rattle.timeout_mgr.specs.Rule.{IsPlace, HasLeft, Apart, IsKept, Tells}
 use Rattle.timeout_mgr.specs.declared.view.TimeCall.{TimeCall}
-use Rattle.timeout_mgr.specs.Passes.{entry_of, calls_in, call_of, entries_in, IsPastOf, first_view, own_entries}
-use Rattle.timeout_mgr.specs.Word.{code_of}
-use Rattle.timeout_mgr.specs.declared.word.SlotState.{SlotState}
-use Rattle.timeout_mgr.specs.declared.word.SlotState.TheVariants.{Free, Making, Active, Inactive, Leaving}
+use Rattle.timeout_mgr.specs.Passes.{entry_of, calls_in, call_of, entries_in, IsPastOf, own_entries}
 use Rattle.reg_keys.specs.Tests.{total}
-use Rattle.timeout_mgr.proofs.Places.{still_at, else_at, moves, restage, known, dead, tickle_still}
 
 module _ {A : Type 0} where
   pub total_append : (f : A → ℕ) (xs ys : List A) → total f (xs ++ ys) ≡ total f xs + total f ys

@@ -1,7 +1,7 @@
 -- What a word says that was unpacked.
-use Rattle.std.proofs.Common.{◌≡◌, ◌≢◌, ℕ, zero, suc, ◌+◌, ◌*◌, ◌/◌, ◌%◌, ◌<◌, ◌≤◌, ◌⊎◌, inl, inr, ⊎_elim, refl, sym, ap, ◌∙◌, arith}
+use Rattle.std.proofs.Common.{◌≡◌, ◌≢◌, ℕ, zero, suc, ◌+◌, ◌*◌, ◌/◌, ◌%◌, ◌<◌, ◌≤◌, ◌⊎◌, inl, inr, ⊎_elim, refl, ap, ◌∙◌, arith}
 use Rattle.timeout_mgr.specs.declared.word.SlotState.{SlotState}
-use Rattle.timeout_mgr.specs.declared.word.SlotState.TheVariants.{Free, Making, Active, Inactive, Leaving}
+use Rattle.timeout_mgr.specs.declared.word.SlotState.TheVariants.{Free}
 use Rattle.timeout_mgr.specs.declared.word.Word.{Word}
 use Rattle.timeout_mgr.specs.Word.{code_of, state_at, word_of}
 

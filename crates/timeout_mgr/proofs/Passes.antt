@@ -1,20 +1,18 @@
 -- The start, and passes that are split and joined.
-use Rattle.std.proofs.Common.{◌≡◌, ◌≢◌, ℕ, zero, suc, ◌+◌, ◌*◌, ◌^◌, ◌<◌, ◌≤◌, ◌⊎◌, inl, inr, ⊎_elim, List, [], ◌∷◌, ◌++◌, length, map, replicate, set, false, refl, sym, ap, ◌∙◌, subst, arith}
-use Rattle.std.specs.Prelude.{Option, Some, None}
-use Rattle.std.proofs.lemmas.List.{length-set, length-map, length-replicate}
-use mathlib.Core.Option as maths
+use Rattle.std.proofs.Common.{◌≡◌, ◌≢◌, ℕ, zero, suc, ◌⊎◌, inl, inr, ⊎_elim, List, [], ◌∷◌, ◌++◌, length, map, replicate, set, refl, sym, ap, ◌∙◌, subst, arith}
+use Rattle.std.specs.Prelude.{Option, None}
+use Rattle.std.proofs.lemmas.List.{length-replicate}
 use mathlib.Core.Option.{some, some-injective, some-ne-none}
 use lib.ListN.{get_elem?}
-use Rattle.atomic_table.specs.Table.{State, opening, Splits, Joins}
-use Rattle.atomic_table.proofs.Lists.{at_set, at_snoc, set_again, set_here, set_else}
+use Rattle.atomic_table.specs.Table.{opening, Splits, Joins}
+use Rattle.atomic_table.proofs.Lists.{at_set, at_snoc, set_again, set_else}
 use Rattle.reg_keys.specs.declared.Opening.{Opening}
-use Rattle.timeout_mgr.specs.declared.view.WatchEntry.{WatchEntry}
 use Rattle.timeout_mgr.specs.declared.view.Holding.{Holding}
 use Rattle.timeout_mgr.specs.declared.view.Holding.TheVariants.{Idle, Holds}
 use Rattle.timeout_mgr.specs.declared.view.TimeView.{TimeView}
-use Rattle.timeout_mgr.specs.Watches.{WatchLog, Unborn}
-use Rattle.timeout_mgr.specs.Rule.{At, IsPlace, HasLeft, Apart, IsKept, Tells, both_of}
-use Rattle.timeout_mgr.specs.Passes.{calls_in, entries_in, IsPastOf, IsSound, first_view, own_entries}
+use Rattle.timeout_mgr.specs.Watches.{WatchLog}
+use Rattle.timeout_mgr.specs.Rule.{HasLeft, Apart, IsKept, Tells, both_of}
+use Rattle.timeout_mgr.specs.Passes.{calls_in, entries_in, IsPastOf, first_view}
 use Rattle.timeout_mgr.specs.declared.word.SlotState.TheVariants.{Free}
 use Rattle.reg_keys.specs.Tests.{total}
 use Rattle.timeout_mgr.specs.Calls.{IsJoined}

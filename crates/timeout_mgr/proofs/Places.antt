@@ -1,13 +1,13 @@
 -- How it stands with watches, and with a slot, behind one entry more.
-use Rattle.std.proofs.Common.{◌≡◌, ◌≢◌, ℕ, zero, suc, ◌+◌, ◌*◌, ◌^◌, ◌<◌, ◌≤◌, ◌⊎◌, inl, inr, ⊎_elim, List, [], ◌∷◌, ◌++◌, Bool, true, false, refl, sym, ap, ◌∙◌, subst, eq-eqb, ne_eqb, lt_of_not-le, arith}
-use Rattle.std.specs.Prelude.{◌&&◌, ◌==◌, if◌then◌else◌, Option, Some, None}
+use Rattle.std.proofs.Common.{◌≡◌, ◌≢◌, ℕ, ◌+◌, ◌*◌, ◌^◌, ◌<◌, ◌≤◌, ◌∷◌, Bool, true, false, refl, sym, ap, ◌∙◌, subst, eq-eqb, ne_eqb, lt_of_not-le, arith}
+use Rattle.std.specs.Prelude.{◌&&◌, ◌==◌, if◌then◌else◌, Option, None}
 use mathlib.Core.Option as maths
 use native.Mathlib.Decide.{ℕ_discrete, dec_le}
 use Rattle.reg_keys.specs.declared.Opening.{Opening}
 use Rattle.timeout_mgr.specs.declared.view.WatchName.{WatchName}
 use Rattle.timeout_mgr.specs.declared.view.WatchEntry.{WatchEntry}
-use Rattle.timeout_mgr.specs.declared.view.WatchEntry.TheVariants.{Added, Tickled, Cancelled, Swept}
-use Rattle.timeout_mgr.specs.Watches.{WatchLog, Status, Unborn, Lives, Ended, name_of, is_of, watch_entries, is_alive, after, status_after, status, IsWatchAnswer, before, IsWatchHistory}
+use Rattle.timeout_mgr.specs.declared.view.WatchEntry.TheVariants.{Tickled, Cancelled}
+use Rattle.timeout_mgr.specs.Watches.{WatchLog, Status, Unborn, Lives, Ended, name_of, is_of, watch_entries, is_alive, after, status_after, status, before}
 use Rattle.timeout_mgr.specs.Rule.{used, status_at, Home, At, IsPlace}
 use Rattle.timeout_mgr.specs.Word.{code_of, state_at}
 use Rattle.timeout_mgr.specs.declared.word.SlotState.{SlotState}

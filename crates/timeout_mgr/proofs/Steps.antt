@@ -1,37 +1,33 @@
 -- Each kind of step keeps the rule, and tells what it is to tell.
 use Rattle.std.proofs.Common.{◌≡◌, ◌≢◌, ℕ, zero, suc, ◌+◌, ◌*◌, ◌^◌, ◌<◌, ◌≤◌, ◌⊎◌, inl, inr, ⊎_elim, List, [], ◌∷◌, ◌++◌, length, set, get_or, Bool, true, false, refl, sym, ap, ◌∙◌, subst, eqb, arith}
 use Rattle.std.specs.Prelude.{Option, Some, None}
-use Rattle.std.proofs.lemmas.List.{append_assoc, append-nil, length-set, set-get_or}
+use Rattle.std.proofs.lemmas.List.{length-set}
 use mathlib.Core.Option as maths
 use mathlib.Core.Option.{some, some-injective, some-ne-none}
 use lib.ListN.{get_elem?}
 use native.Mathlib.Decide.{ℕ_discrete}
 use prog.Atomic.{either}
-use Rattle.atomic_table.specs.Table.{State, Me, Step, step, keeps, takes, gives, put_back, rest, Valid, stepped, Allows}
-use Rattle.atomic_table.proofs.Lists.{at_set, at_index, set_here, set_else, exchanged}
+use Rattle.atomic_table.specs.Table.{step, keeps, takes, gives, put_back, rest, Valid, stepped, Allows}
+use Rattle.atomic_table.proofs.Lists.{set_here, set_else, exchanged}
 use Rattle.reg_keys.specs.declared.Opening.{Opening}
-use Rattle.timeout_mgr.specs.declared.view.WatchName.{WatchName}
 use Rattle.timeout_mgr.specs.declared.view.WatchEntry.{WatchEntry}
 use Rattle.timeout_mgr.specs.declared.view.WatchEntry.TheVariants.{Added, Tickled, Cancelled, Swept}
 use Rattle.timeout_mgr.specs.declared.view.Shown.{Shown}
 use Rattle.timeout_mgr.specs.declared.view.Shown.TheVariants.{Decided, Passed, Missed, Saw, Tried, Answered}
 use Rattle.timeout_mgr.specs.declared.view.TimeCall.{TimeCall}
-use Rattle.timeout_mgr.specs.declared.view.Holding.{Holding}
 use Rattle.timeout_mgr.specs.declared.view.Holding.TheVariants.{Idle, Holds}
 use Rattle.timeout_mgr.specs.declared.view.TimeView.{TimeView}
-use Rattle.timeout_mgr.specs.Watches.{WatchLog, Status, Unborn, Lives, Ended, name_of, is_alive, after, status, IsWatchAnswer, before, IsWatchHistory}
-use Rattle.timeout_mgr.specs.Rule.{used, status_at, Home, At, IsPlace, HasLeft, Apart, IsKept, Tells, both_of}
-use Rattle.timeout_mgr.specs.Passes.{entries_in, IsPastOf, first_view, own_entries}
+use Rattle.timeout_mgr.specs.Watches.{WatchLog, Lives, Ended, name_of, is_alive, after, status, IsWatchAnswer, before, IsWatchHistory}
+use Rattle.timeout_mgr.specs.Rule.{used, status_at, Home, At, IsPlace, HasLeft, Apart, IsKept, Tells}
+use Rattle.timeout_mgr.specs.Passes.{entries_in}
 use Rattle.timeout_mgr.specs.Word.{code_of}
 use Rattle.timeout_mgr.specs.declared.word.SlotState.{SlotState}
 use Rattle.timeout_mgr.specs.declared.word.SlotState.TheVariants.{Free, Making, Active, Inactive, Leaving}
-use Rattle.reg_keys.specs.Tests.{total}
 use Rattle.timeout_mgr.proofs.Places.{still_at, else_at, moves, restage, known, dead, tickle_still, cancel_still, next_use}
 use Rattle.std.proofs.lemmas.Option.{same_Some}
-use Rattle.atomic_table.specs.Table.{Act, homes_after, carried_after}
+use Rattle.atomic_table.specs.Table.{Act, carried_after}
 use Rattle.timeout_mgr.specs.Plays.{M, name, Shows, Takes, saw, joined_look, take_try, added, freed, tickle_look, tickle_try, cancel_look, cancel_try, sweep_look, age_try, expire_try, answers}
-use Rattle.timeout_mgr.proofs.Keeps.{St, H, NotAt, not_at, not_at_free, left_stays, IsFree, told_view, tells, told_ends, told_kept, shows, changes}
-use Rattle.timeout_mgr.proofs.Places.{same_word}
+use Rattle.timeout_mgr.proofs.Keeps.{St, H, not_at, not_at_free, left_stays, IsFree, told_view, tells, told_ends, told_kept, shows, changes}
 
 some_there : {A : Type 0} (l : List A) (k : ℕ) → k < length l → (a : A) × (get_elem? l k ≡ some a)
 some_there [] k h = absurd (omega arith)

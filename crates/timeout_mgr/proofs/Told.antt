@@ -1,25 +1,24 @@
 -- What the calls say, from what their steps told.
-use Rattle.std.proofs.Common.{◌≡◌, ◌≢◌, ℕ, zero, suc, ◌+◌, ◌*◌, ◌%◌, ◌^◌, ◌<◌, ◌≤◌, length, ◌⊎◌, inl, inr, ⊎_elim, List, [], ◌∷◌, ◌++◌, true, false, refl, sym, ap, ◌∙◌, subst, arith}
+use Rattle.std.proofs.Common.{◌≡◌, ◌≢◌, ℕ, suc, ◌+◌, ◌*◌, ◌%◌, ◌^◌, ◌<◌, ◌≤◌, length, ◌⊎◌, inl, inr, ⊎_elim, List, [], ◌∷◌, ◌++◌, true, false, refl, sym, ap, ◌∙◌, subst, arith}
 use Rattle.std.specs.Prelude.{Option, Some, None}
 use Rattle.std.proofs.lemmas.List.{append_assoc, append-nil, length-append}
-use Rattle.atomic_table.specs.Table.{Step, step, rest}
+use Rattle.atomic_table.specs.Table.{step, rest}
 use mathlib.Core.Option as maths
 use Rattle.reg_keys.specs.declared.Opening.{Opening}
 use Rattle.timeout_mgr.specs.declared.view.WatchEntry.{WatchEntry}
-use Rattle.timeout_mgr.specs.declared.view.WatchEntry.TheVariants.{Added, Tickled, Cancelled, Swept}
+use Rattle.timeout_mgr.specs.declared.view.WatchEntry.TheVariants.{Tickled, Cancelled, Swept}
 use Rattle.timeout_mgr.specs.declared.view.Shown.{Shown}
 use Rattle.timeout_mgr.specs.declared.view.Shown.TheVariants.{Decided, Passed, Missed, Saw, Tried, Answered}
 use Rattle.timeout_mgr.specs.declared.view.Holding.{Holding}
-use Rattle.timeout_mgr.specs.declared.view.Holding.TheVariants.{Idle, Holds}
+use Rattle.timeout_mgr.specs.declared.view.Holding.TheVariants.{Idle}
 use Rattle.timeout_mgr.specs.declared.view.TimeView.{TimeView}
 use Rattle.timeout_mgr.specs.Watches.{WatchLog}
 use Rattle.timeout_mgr.specs.Rule.{Tells}
-use Rattle.timeout_mgr.specs.Passes.{entries_in, IsPastOf, IsSound, own_entries}
-use Rattle.timeout_mgr.specs.Plays.{M, name, Shows, Takes, tickle_look, tickle_try, cancel_look, cancel_try, take_try, age_try, expire_try, sweep_look}
+use Rattle.timeout_mgr.specs.Passes.{entries_in, IsPastOf, IsSound}
+use Rattle.timeout_mgr.specs.Plays.{M, name, Takes, tickle_look, tickle_try, cancel_look, cancel_try, take_try, age_try, expire_try, sweep_look}
 use Rattle.timeout_mgr.specs.declared.view.TimeCall.{TimeCall}
 use Rattle.timeout_mgr.specs.declared.view.TimeCall.TheVariants.{Sweep}
 use Rattle.timeout_mgr.specs.Passes.{calls_in, calls_of, call_of, decided_call}
-use Rattle.timeout_mgr.specs.Shown.{ShowsAlive}
 use Rattle.timeout_mgr.specs.Calls.{GoesOn, Decides, DecidesNothing, AreTaken, IsTakenAt, SweptSlot, HasSwept, IsRound, list_of}
 use Rattle.timeout_mgr.specs.OneSlot.{Stays, ShowsOne, SweepsAt, Answers}
 use Rattle.timeout_mgr.proofs.Keeps.{entries_append, calls_append}

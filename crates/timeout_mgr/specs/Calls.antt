@@ -1,5 +1,5 @@
 -- To be believed: what the calls say, over what their pass knows before and after.
-use Rattle.std.specs.Prelude.{◌≡◌, ◌≢◌, ℕ, ◌+◌, ◌*◌, ◌%◌, ◌^◌, ◌≤◌, ◌⊎◌, List, [], ◌∷◌, ◌++◌, true, false, Option, Some, None, zero, suc}
+use Rattle.std.specs.Prelude.{◌≡◌, ◌≢◌, ℕ, ◌+◌, ◌%◌, ◌⊎◌, List, [], ◌∷◌, ◌++◌, true, false, Option, Some, None, zero, suc}
 use Rattle.reg_keys.specs.declared.Opening.{Opening}
 use Rattle.timeout_mgr.specs.declared.view.WatchName.{WatchName}
 use Rattle.timeout_mgr.specs.declared.view.WatchEntry.{WatchEntry}
@@ -22,7 +22,7 @@ use Rattle.timeout_mgr.specs.declared.watch.AddWatch.{AddWatch}
 use Rattle.timeout_mgr.specs.declared.watch.AddWatch.TheVariants as Add
 use Rattle.timeout_mgr.specs.Watches.{WatchLog}
 use Rattle.timeout_mgr.specs.Shown.{free_word, active_word, inactive_word, ShowsAlive, IsTaken}
-use Rattle.timeout_mgr.specs.Passes.{IsPastOf, IsSound, entries_in, calls_in, calls_of, decided_call}
+use Rattle.timeout_mgr.specs.Passes.{IsPastOf, IsSound, entries_in, calls_of, decided_call}
 
 -- what the pass knows
 abbrev pub view_of : TimePass → TimeView

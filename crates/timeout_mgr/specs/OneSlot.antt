@@ -5,7 +5,7 @@ use Rattle.timeout_mgr.specs.declared.view.WatchName.{WatchName}
 use Rattle.timeout_mgr.specs.declared.view.WatchEntry.TheVariants.{Added, Cancelled}
 use Rattle.timeout_mgr.specs.declared.view.TimeCall.{TimeCall}
 use Rattle.timeout_mgr.specs.declared.view.Shown.{Shown}
-use Rattle.timeout_mgr.specs.declared.view.Shown.TheVariants.{Saw, Tried, Answered}
+use Rattle.timeout_mgr.specs.declared.view.Shown.TheVariants.{Tried, Answered}
 use Rattle.timeout_mgr.specs.declared.view.TimeView.{TimeView}
 use Rattle.timeout_mgr.specs.declared.watch.Watch.{Watch}
 use Rattle.timeout_mgr.specs.declared.one_slot.Left.{Left}

@@ -1,5 +1,5 @@
 -- To be believed: what a pass knows of the history, and what it did: its calls with their answers, the entries that it made, and what its steps showed.
-use Rattle.std.specs.Prelude.{◌≡◌, ℕ, ◌+◌, ◌≤◌, List, [], ◌∷◌, ◌++◌, Bool, true, false}
+use Rattle.std.specs.Prelude.{◌≡◌, ℕ, ◌≤◌, List, [], ◌∷◌, ◌++◌, Bool, true, false}
 use Rattle.reg_keys.specs.declared.Opening.{Opening}
 use Rattle.reg_keys.specs.Tests.{total}
 use Rattle.timeout_mgr.specs.declared.view.WatchEntry.{WatchEntry}

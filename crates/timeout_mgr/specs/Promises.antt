@@ -1,8 +1,7 @@
 -- To be believed: what is promised of every history of watches, and of what a full table shows.
-use Rattle.std.specs.Prelude.{◌≡◌, ℕ, ◌≤◌, ◌<◌, List, [], ◌∷◌, ◌++◌, Bool, true, false, Option, Some, None, All}
+use Rattle.std.specs.Prelude.{◌≡◌, ℕ, ◌≤◌, List, [], ◌∷◌, ◌++◌, Bool, true, false, Option, Some, None, All}
 use Rattle.reg_keys.specs.declared.Opening.{Opening}
-use Rattle.reg_keys.specs.Tests.{one_if, total, IsIn}
-use Rattle.timeout_mgr.specs.declared.view.WatchName.{WatchName}
+use Rattle.reg_keys.specs.Tests.{one_if, total}
 use Rattle.timeout_mgr.specs.declared.view.WatchEntry.{WatchEntry}
 use Rattle.timeout_mgr.specs.declared.view.WatchEntry.TheVariants.{Added, Tickled, Cancelled, Swept}
 use Rattle.timeout_mgr.specs.declared.view.Shown.{Shown}

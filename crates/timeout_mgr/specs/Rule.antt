@@ -1,5 +1,5 @@
 -- Inner: the rule of the table, which holds between any two steps of any threads, and what a step tells its pass.
-use Rattle.std.specs.Prelude.{◌≡◌, ◌≢◌, ℕ, ◌+◌, ◌*◌, ◌^◌, ◌<◌, ◌≤◌, ◌⊎◌, List, [], ◌∷◌, ◌++◌, length, Bool, true, false, Option, Some, None}
+use Rattle.std.specs.Prelude.{◌≡◌, ◌≢◌, ℕ, ◌+◌, ◌*◌, ◌^◌, ◌<◌, ◌≤◌, ◌⊎◌, List, [], ◌++◌, length, true, false, Option, Some, None}
 use mathlib.Core.Option as maths
 use lib.ListN.{get_elem?}
 use Rattle.atomic_table.specs.Table.{State, Me}

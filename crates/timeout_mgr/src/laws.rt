@@ -1,4 +1,5 @@
-// What holds of every history of watches, and of what a full table shows. Each law is the contract of a function that does nothing.
+//! What holds of every history of watches, and of what a full table shows. Each law is the contract of a
+//! function that does nothing.
 ghost use Rattle.std.specs.Prelude.{◌≡◌, ◌≤◌, ◌<◌, ◌∷◌, ◌++◌, ℕ, List, Option, Some, false};
 ghost use Rattle.reg_keys.specs.declared.Opening.{Opening};
 ghost use Rattle.reg_keys.specs.Tests.{total, IsIn};
@@ -28,7 +29,8 @@ pub fn gone_watches_have_ended()
         → 1 ≤ total (adds x.slot x.number) past → status x.slot x.number past ≡ Ended }
 {}
 
-/// A watch that has ended lives never again: every later tickle and cancel of it answers so, and no sweep gives it.
+/// A watch that has ended lives never again: every later tickle and cancel of it answers so, and no sweep
+/// gives it.
 pub fn ended_watches_stay_ended()
     ensures { (slot number : ℕ) (later past : WatchLog) → IsWatchHistory (later ++ past)
         → status slot number past ≡ Ended → StaysEnded slot number later past }

@@ -1,4 +1,4 @@
-// How much there is of what.
+//! How much there is of what.
 
 /// How many watches can live at once.
 pub const SLOTS: usize = 4096;

@@ -1,4 +1,5 @@
-// What the calls do at one slot: a load of its word, exchanges from what the load found, and, for the one that took the slot, its opening in or out.
+//! What the calls do at one slot: a load of its word, exchanges from what the load found, and, for the one
+//! that took the slot, its opening in or out.
 ghost use Rattle.std.specs.Prelude.{◌≡◌, ◌<◌, ◌≤◌, ◌^◌, None};
 ghost use Rattle.timeout_mgr.specs.Word.{bits_of};
 
@@ -129,7 +130,8 @@ impl Timeouts {
         }
     }
 
-    /// One exchange to leaving, from the word that is named. Where it finds that word, the slot is emptied and freed for its next use.
+    /// One exchange to leaving, from the word that is named. Where it finds that word, the slot is emptied
+    /// and freed for its next use.
     fn leave<N: Numbered>(&self, pass: &mut TimePass, watch: &Watch, named: u64) -> Left
         requires own { IsOf self.now pass.old }
         requires number { N.number ≡ watch.now.number }
@@ -194,7 +196,8 @@ impl Timeouts {
             .compare_exchange::<Age<N>>(&mut pass.seat, slot, active, inactive);
     }
 
-    /// One exchange from inactive to leaving. Where it finds the slot so, it takes the opening and frees the slot for its next use.
+    /// One exchange from inactive to leaving. Where it finds the slot so, it takes the opening and frees the
+    /// slot for its next use.
     fn expire<N: Numbered>(&self, pass: &mut TimePass, slot: usize, number: u64) -> Option<Opening>
         requires own { IsOf self.now pass.old }
         requires inside { slot < 4096 }
@@ -218,7 +221,8 @@ impl Timeouts {
         given
     }
 
-    /// A load by which a call ends whose answer no single step decided, so that the pass knows of the call. What the answer is about is there for the proof alone: the caller picks the answer by it.
+    /// A load by which a call ends whose answer no single step decided, so that the pass knows of the call.
+    /// What the answer is about is there for the proof alone: the caller picks the answer by it.
     pub(crate) fn answer<C: Answering, T>(&self, pass: &mut TimePass, _about: &T)
         requires own { IsOf self.now pass.old }
         ensures own { IsOf self.now pass.new }

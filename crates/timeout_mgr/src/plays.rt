@@ -1,4 +1,4 @@
-// The kinds of atomic step on the table, and what each tells the pass that makes it.
+//! The kinds of atomic step on the table, and what each tells the pass that makes it.
 ghost use Rattle.std.specs.Prelude.{ℕ, []};
 ghost use Rattle.timeout_mgr.specs.declared.view.TimeCall.{TimeCall};
 ghost use Rattle.timeout_mgr.specs.declared.view.TimeCall.TheVariants.{Sweep};
@@ -11,7 +11,8 @@ use atomic_table::{Join, Play, Split};
 use reg_keys::Opening;
 use std::marker::{Brand, PhantomData};
 
-/// The number of the watch that a call is about. Each call picks it, since a step has no parameter of its own.
+/// The number of the watch that a call is about. Each call picks it, since a step has no parameter of its
+/// own.
 pub trait Numbered {
     ghost number: { ℕ };
 }

@@ -1,4 +1,4 @@
-// The rule of the table of a timeout manager, which holds between any two steps of any threads.
+//! The rule of the table of a timeout manager, which holds between any two steps of any threads.
 ghost use Rattle.timeout_mgr.specs.Passes.{first_view};
 ghost use Rattle.timeout_mgr.specs.Rule.{IsKept};
 

@@ -1,4 +1,4 @@
-// The manager of timeouts, and its calls. What they do at one slot stands in `one_slot`.
+//! The manager of timeouts, and its calls. What they do at one slot stands in `one_slot`.
 ghost use Rattle.std.specs.Prelude.{◌≡◌, ◌<◌, IfOk, IsOk};
 ghost use Rattle.timeout_mgr.specs.Rule.{IsAtRest};
 
@@ -27,7 +27,8 @@ pub struct TimePass {
     ghost rests: { IsAtRest seat.me },
 }
 
-/// The slot at which a search for the descriptor begins. Descriptors that follow one another lie in different lines of the cache, since their watches are written by different threads.
+/// The slot at which a search for the descriptor begins. Descriptors that follow one another lie in different
+/// lines of the cache, since their watches are written by different threads.
 pub(crate) fn first_slot(fd: u16) -> usize
     ensures { result < 4096 }
 {
@@ -75,7 +76,8 @@ impl Timeouts {
         self.table.shared.load::<Compare>(&mut pass.seat, 0);
     }
 
-    /// Adds a watch over the opening. It looks at the slots in a row, from the one of the descriptor on and round the table, at each at most once.
+    /// Adds a watch over the opening. It looks at the slots in a row, from the one of the descriptor on and
+    /// round the table, at each at most once.
     pub fn add(&self, pass: &mut TimePass, o: Opening) -> AddWatch
         requires own { IsOf self.now pass.old }
         ensures own { IsOf self.now pass.new }
@@ -91,7 +93,8 @@ impl Timeouts {
         AddWatch::Full
     }
 
-    /// Says that something happened on the watch's connection. It is one load where no sweep came by since the last such call, and else a load and an exchange.
+    /// Says that something happened on the watch's connection. It is one load where no sweep came by since
+    /// the last such call, and else a load and an exchange.
     pub fn tickle(&self, pass: &mut TimePass, watch: &Watch) -> TickleOut
         requires own { IsOf self.now pass.old }
         ensures own { IsOf self.now pass.new }
@@ -109,7 +112,8 @@ impl Timeouts {
         self.cancel_as::<Brand>(pass, watch)
     }
 
-    /// Gives the openings of the watches that live and that nothing but a sweep came by since the sweep before. These watches end. What the list held before is gone.
+    /// Gives the openings of the watches that live and that nothing but a sweep came by since the sweep
+    /// before. These watches end. What the list held before is gone.
     pub fn sweep(&self, pass: &mut TimePass, out: &mut Expired)
         requires own { IsOf self.now pass.old }
         ensures own { IsOf self.now pass.new }

@@ -1,4 +1,5 @@
-// What a pass knows. It is plain data that exists in contracts alone: no value of it is made, and it has no bytes.
+//! What a pass knows. It is plain data that exists in contracts alone: no value of it is made, and it has no
+//! bytes.
 use reg_keys::Opening;
 use std::collections::LinkedList;
 

@@ -1,7 +1,8 @@
-// A watch as its owner holds it, and what the calls on it answer.
+//! A watch as its owner holds it, and what the calls on it answer.
 ghost use Rattle.std.specs.Prelude.{◌<◌, ◌^◌};
 
-/// The watch over one connection. It has one owner: it isn't `Clone`, `tickle` takes it by reference, and `cancel` takes it away.
+/// The watch over one connection. It has one owner: it isn't `Clone`, `tickle` takes it by reference, and
+/// `cancel` takes it away.
 #[derive(Drop)]
 pub struct Watch {
     pub(crate) slot: usize,

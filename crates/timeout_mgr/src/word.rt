@@ -1,4 +1,5 @@
-// The word of a slot: how many uses of the slot are over, and what the current one is at. Both stand in one number, so that one atomic step changes both. This file alone knows how they are packed.
+//! The word of a slot: how many uses of the slot are over, and what the current one is at. Both stand in one
+//! number, so that one atomic step changes both. This file alone knows how they are packed.
 ghost use Rattle.std.specs.Prelude.{◌≡◌, ◌≤◌, ◌^◌};
 ghost use Rattle.timeout_mgr.specs.Word.{bits_of, word_of};
 

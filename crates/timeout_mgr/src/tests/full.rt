@@ -1,4 +1,4 @@
-// A full table, and a slot that is used again.
+//! A full table, and a slot that is used again.
 ghost use Rattle.timeout_mgr.specs.Calls.{IsOf};
 
 use crate::*;

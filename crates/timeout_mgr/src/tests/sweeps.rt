@@ -1,4 +1,4 @@
-// What sweeps give to one thread.
+//! What sweeps give to one thread.
 ghost use Rattle.timeout_mgr.specs.Calls.{IsOf};
 
 use crate::*;
@@ -53,13 +53,22 @@ fn nothing_is_given_of_a_cancelled_watch(rt: HostRuntime) -> Result<(), Fail> {
     Ok(())
 }
 
+/// Adds a watch for each of these descriptors.
+fn add_each(times: &Timeouts, pass: &mut TimePass, fds: &[u16]) -> Result<(), Fail>
+    requires { IsOf times.now pass.old }
+    ensures { IsOf times.now pass.new }
+{
+    for fd in fds {
+        let _watch = added(times.add(pass, Opening { number: 1, fd: *fd }))?;
+    }
+    Ok(())
+}
+
 #[test]
 fn openings_are_given_in_the_order_of_their_slots(rt: HostRuntime) -> Result<(), Fail> {
     let (times, mut pass) = Timeouts::new(rt.alloc())?;
     let mut out = Expired::new(rt.alloc())?;
-    for fd in [9, 4, 600] {
-        let _watch = added(times.add(&mut pass, Opening { number: 1, fd }))?;
-    }
+    add_each(&times, &mut pass, &[9, 4, 600])?;
     times.sweep(&mut pass, &mut out);
     times.sweep(&mut pass, &mut out);
     for fd in [4, 9, 600] {

@@ -1,4 +1,4 @@
-// Two threads that sweep, and one that tickles the one watch that there is.
+//! Two threads that sweep, and one that tickles the one watch that there is.
 ghost use Rattle.std.specs.Prelude.{All, IfOk};
 ghost use Rattle.timeout_mgr.specs.Calls.{IsOf};
 
@@ -21,7 +21,8 @@ struct Sweeper {
     given: u64,
 }
 
-/// A thread that tickles a watch: whether a tickle answered `Gone`, and whether one behind it answered `Alive`.
+/// A thread that tickles a watch: whether a tickle answered `Gone`, and whether one behind it answered
+/// `Alive`.
 #[derive(Drop)]
 struct Tickler {
     pass: TimePass,

@@ -1,6 +1,6 @@
-use Rattle.std.proofs.Common.{ℕ, ◌+◌, ◌*◌, ◌≡◌, ap, ◌∙◌, inl, inr, [], ◌∷◌, sym, refl, arith, Some}
+use Rattle.std.proofs.Common.{ℕ, ◌*◌, ◌≡◌, ap, ◌∙◌, inl, inr, [], ◌∷◌, sym, refl, arith}
 use Rattle.atomic_table.specs.Table.{rest}
-use Rattle.timeout_mgr.specs.declared.view.Holding.TheVariants.{Idle, Holds}
+use Rattle.timeout_mgr.specs.declared.view.Holding.TheVariants.{Holds}
 use Rattle.timeout_mgr.specs.declared.view.Shown.TheVariants.{Saw}
 use Rattle.timeout_mgr.specs.declared.word.SlotState.TheVariants.{Free}
 use Rattle.timeout_mgr.proofs.Packed.{packed, is_free}

@@ -1,5 +1,4 @@
-use Rattle.std.proofs.Common.{◌+◌, ◌*◌, ap, ◌∙◌, inl, inr, ⊎_elim, [], ◌∷◌, ◌++◌, sym, refl, arith}
-use Rattle.timeout_mgr.specs.declared.view.Shown.TheVariants.{Saw, Tried}
+use Rattle.std.proofs.Common.{◌∙◌, inl, inr, ⊎_elim, sym, refl, arith}
 use Rattle.timeout_mgr.proofs.Steps.{cancel_looks}
 use Rattle.timeout_mgr.proofs.Told.{ask_gone, ask_lives, stays_on, then_decides, then_answers}
 use Rattle.timeout_mgr.proofs.timeouts.Timeouts.cancel_as.Goals as goal

@@ -1,8 +1,8 @@
-use Rattle.std.proofs.Common.{◌+◌, ◌*◌, ap, ◌∙◌, inl, inr, ⊎_elim, [], sym, refl, arith, Some}
+use Rattle.std.proofs.Common.{◌+◌, ◌*◌, ap, ◌∙◌, inl, inr, ⊎_elim, sym, arith, Some}
 use Rattle.timeout_mgr.specs.declared.view.Holding.TheVariants.{Idle, Holds}
 use Rattle.timeout_mgr.specs.declared.view.TimeView.{TimeView}
 use Rattle.timeout_mgr.proofs.Steps.{cancel_tries, frees}
-use Rattle.timeout_mgr.proofs.Told.{left_hit, left_lives, left_gone, front, decided, freed_decides}
+use Rattle.timeout_mgr.proofs.Told.{left_hit, left_gone, front, decided, freed_decides}
 use Rattle.timeout_mgr.proofs.timeouts.Timeouts.leave.Goals as goal
 
 pub compare_exchange-found-requires : goal.compare_exchange-found-requires

@@ -1,4 +1,4 @@
-use Rattle.std.proofs.Common.{rules, ◌∙◌}
+use Rattle.std.proofs.Common.{rules}
 use Rattle.timeout_mgr.proofs.Passes.{starts}
 use Rattle.timeout_mgr.proofs.timeouts.Timeouts.new.Goals as goal
 

@@ -1,8 +1,8 @@
 use Rattle.std.proofs.Common.{inl, inr, refl, arith}
-use Rattle.timeout_mgr.specs.declared.word.SlotState.TheVariants.{Free, Making, Active, Inactive, Leaving}
-use Rattle.timeout_mgr.proofs.Packed.{packed, not_alive}
+use Rattle.timeout_mgr.specs.declared.word.SlotState.TheVariants.{Active, Inactive}
+use Rattle.timeout_mgr.proofs.Packed.{packed}
 use Rattle.timeout_mgr.proofs.Steps.{sweep_looks}
-use Rattle.timeout_mgr.proofs.Told.{look_live, look_dead, then_sweeps}
+use Rattle.timeout_mgr.proofs.Told.{look_live, then_sweeps}
 use Rattle.timeout_mgr.proofs.timeouts.Timeouts.sweep_at.Goals as goal
 
 pub load-found-requires : goal.load-found-requires
