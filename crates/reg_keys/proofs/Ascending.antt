@@ -45,10 +45,10 @@ keys_ascend : {B : Type 0} (m : B → Key) (b : Registered → B) → ((w : Regi
 keys_ascend m b key_is [] h = tt
 keys_ascend m b key_is (w ∷ ws) h = (
   λ l i. (let x = map_in m l (map b ws) i in
-  let y = map_in b x.0 ws x.1 in
-  let below = h.0 y.0 y.1 in
-  let later : l.number ≡ y.0.key.number = ap (λ (k : Key). k.number) (x.2 ∙ (ap m y.2 ∙ key_is y.0)) in
-  let first : (m (b w)).number ≡ w.key.number = ap (λ (k : Key). k.number) (key_is w) in omega arith),
+      let y = map_in b x.0 ws x.1 in
+      let below = h.0 y.0 y.1 in
+      let later : l.number ≡ y.0.key.number = ap (λ (k : Key). k.number) (x.2 ∙ (ap m y.2 ∙ key_is y.0)) in
+      let first : (m (b w)).number ≡ w.key.number = ap (λ (k : Key). k.number) (key_is w) in omega arith),
   keys_ascend m b key_is ws h.1,
 )
 
