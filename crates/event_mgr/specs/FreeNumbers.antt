@@ -1,4 +1,4 @@
--- What the bitmap of free numbers stands for. `out` tells of each number whether it is out.
+-- Inner: what the bitmap of free numbers stands for. `out` tells of each number whether it is out.
 use Rattle.std.specs.Prelude.{◌≡◌, ℕ, ◌+◌, ◌*◌, ◌<◌, ◌==◌, ◌&&◌, ◌||◌, Bool, true, false, not, List, length, slice_index}
 use Rattle.std.specs.Int.{bit_at}
 use Rattle.reg_keys.specs.declared.limits.TheConstants.{DESCRIPTORS}

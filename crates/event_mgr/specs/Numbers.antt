@@ -1,4 +1,4 @@
--- Which numbers of descriptors are out after a history of the calls on them, and what each call is
+-- To be believed: which numbers of descriptors are out after a history of the calls on them, and what each call is
 -- answered. The definitions read the history as a past: the list of its entries, the latest first.
 use Rattle.std.specs.Prelude.{◌≡◌, ℕ, suc, zero, ◌==◌, Bool, not, if◌then◌else◌, List, [], ◌∷◌, map, filter, reverse, Option, Some, None}
 use Rattle.std.specs.List.{list_any}

@@ -14,7 +14,7 @@ use Rattle.turn_cell.proofs.Weights.{same_or, weigh_set}
 use Rattle.turn_cell.proofs.Joins.{prefix_refl, prefix_trans}
 use Rattle.level.specs.Leveling.{seen_by, tries_of, KeepsOwn, Grows}
 use Rattle.level.specs.Gathering.{Shares}
-use Rattle.level.specs.Meanings.{PassMeaning, views, AreOf, KeepOwn, HaveShared}
+use Rattle.level.specs.Meanings.{PassMeaning, views, AllAreOf, KeepOwn, HaveShared}
 use Rattle.level.proofs.Lists.{set_again, get_else, get_here, map_set, get_map, All-tail}
 
 module _ {E : Type 0} where
@@ -115,5 +115,5 @@ module _ {P O : Type 0} (m : PassMeaning P O) (f f' : P) (ps : List P) (i : ℕ)
 
 module _ {P O : Type 0} (m : PassMeaning P O) (o : O) (f f' : P) (ps : List P) (i : ℕ) (p p' : P) (at : slice_get ps i ≡ Some p) where
   -- the first and one of the others were replaced by passes of the same cells
-  pub own_both : m.is_of o f' → m.is_of o p' → AreOf m o (f ∷ ps) → AreOf m o (f' ∷ set ps i p')
+  pub own_both : m.is_of o f' → m.is_of o p' → AllAreOf m o (f ∷ ps) → AllAreOf m o (f' ∷ set ps i p')
   own_both first other own = All-cons (m.is_of o) f' (set ps i p') first (All-set (m.is_of o) ps i p' other (All-tail (m.is_of o) f ps own))

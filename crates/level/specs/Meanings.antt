@@ -20,8 +20,8 @@ module _ {P O : Type 0} (m : PassMeaning P O) where
   views k ps = map (m.view k) ps
 
   -- each is a pass of these cells
-  abbrev pub AreOf : O → List P → Type 0
-  AreOf o ps = All (λ p. m.is_of o p) ps
+  abbrev pub AllAreOf : O → List P → Type 0
+  AllAreOf o ps = All (λ p. m.is_of o p) ps
 
   -- of each cell, the pass that was p, and then p', told the one that was q, and then q', what it had seen
   abbrev pub HaveShared : P → P → P → P → Type 0

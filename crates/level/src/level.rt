@@ -1,6 +1,6 @@
 // Passes that are brought to one history of each of their cells.
 ghost use Rattle.std.specs.Prelude.{◌∷◌, length};
-ghost use Rattle.level.specs.Meanings.{AreOf, HoldAllSeats, KeepOwn, AreBroughtLevel};
+ghost use Rattle.level.specs.Meanings.{AllAreOf, HoldAllSeats, KeepOwn, AreBroughtLevel};
 ghost use Rattle.level.specs.Gathering.{AreGathered, HaveTold};
 
 use crate::share::Share;
@@ -10,9 +10,9 @@ use crate::share::Share;
 /// It takes no memory, and waits for no turn: what each pass had seen is told to the first, and
 /// what the first has then seen to each.
 pub fn bring_level<P: Share>(of: &P::Of, passes: &mut [P])
-    requires own { AreOf P.meaning of.now passes.old }
+    requires own { AllAreOf P.meaning of.now passes.old }
     requires seats { HoldAllSeats P.meaning passes.old }
-    ensures own { AreOf P.meaning of.now passes.new }
+    ensures own { AllAreOf P.meaning of.now passes.new }
     ensures keeps { KeepOwn P.meaning passes.old passes.new }
     ensures level { AreBroughtLevel P.meaning passes.old passes.new }
 {
@@ -24,8 +24,8 @@ pub fn bring_level<P: Share>(of: &P::Of, passes: &mut [P])
 
 /// The first pass comes to see what any of the others has seen.
 fn gather<P: Share>(of: &P::Of, first: &mut P, others: &mut [P])
-    requires own { AreOf P.meaning of.now (first.old ∷ others.old) }
-    ensures own { AreOf P.meaning of.now (first.new ∷ others.new) }
+    requires own { AllAreOf P.meaning of.now (first.old ∷ others.old) }
+    ensures own { AllAreOf P.meaning of.now (first.new ∷ others.new) }
     ensures keeps { KeepOwn P.meaning (first.old ∷ others.old) (first.new ∷ others.new) }
     ensures gathered { AreGathered P.meaning (first.old ∷ others.old) (length (first.new ∷ others.new)) (first.new ∷ others.new) }
 {
@@ -36,8 +36,8 @@ fn gather<P: Share>(of: &P::Of, first: &mut P, others: &mut [P])
 
 /// Each of the others comes to see what the first has seen.
 fn spread<P: Share>(of: &P::Of, first: &mut P, others: &mut [P])
-    requires own { AreOf P.meaning of.now (first.old ∷ others.old) }
-    ensures own { AreOf P.meaning of.now (first.new ∷ others.new) }
+    requires own { AllAreOf P.meaning of.now (first.old ∷ others.old) }
+    ensures own { AllAreOf P.meaning of.now (first.new ∷ others.new) }
     ensures keeps { KeepOwn P.meaning (first.old ∷ others.old) (first.new ∷ others.new) }
     ensures told { HaveTold P.meaning (first.old ∷ others.old) (length (first.new ∷ others.new)) (first.new ∷ others.new) }
 {

@@ -34,6 +34,8 @@ impl Part for Ticks {
 
     ghost entry = { λ call reply. reply };
 
+    ghost answers = { λ call reply. Unit {0} };
+
     fn apply(&mut self, _call: ()) -> u64 {
         self.count += 1;
         self.count

@@ -1,11 +1,11 @@
 use Rattle.std.proofs.Common.{◌∷◌, sym, subst}
-use Rattle.level.specs.Meanings.{AreOf, KeepOwn, HoldAllSeats, AreBroughtLevel}
+use Rattle.level.specs.Meanings.{AllAreOf, KeepOwn, HoldAllSeats, AreBroughtLevel}
 use Rattle.level.proofs.Sharing.{keep_trans}
 use Rattle.level.proofs.Levels.{all_level, none_level}
 use Rattle.level.proofs.level.bring_level.Goals as goal
 
 pub gather-requires : goal.gather-requires
-gather-requires g c = record { own = subst (AreOf g.P.Share.meaning c.args.of.now) c.in-Some.ensures.cases.0 c.requires.own }
+gather-requires g c = record { own = subst (AllAreOf g.P.Share.meaning c.args.of.now) c.in-Some.ensures.cases.0 c.requires.own }
 
 pub returns-in-Some-clause-keeps : goal.returns-in-Some-clause-keeps
 returns-in-Some-clause-keeps g c = let m = g.P.Share.meaning in

@@ -1,11 +1,11 @@
 use Rattle.std.proofs.Common.{suc, ◌∷◌}
-use Rattle.level.specs.Meanings.{AreOf, KeepOwn}
+use Rattle.level.specs.Meanings.{AllAreOf, KeepOwn}
 use Rattle.level.specs.Gathering.{HaveTold}
 use Rattle.level.proofs.level.spread.Given as goal
 
 abbrev pub invariant-loop-other : goal.invariant-loop-other
 invariant-loop-other g l = let m = g.P.Share.meaning in record {
-  own : AreOf m l.of (l.first ∷ l.other-items);
+  own : AllAreOf m l.of (l.first ∷ l.other-items);
   keeps : KeepOwn m (l.fn.first ∷ l.fn.others) (l.first ∷ l.other-items);
   told : HaveTold m (l.fn.first ∷ l.fn.others) (suc l.other-index) (l.first ∷ l.other-items);
 }
