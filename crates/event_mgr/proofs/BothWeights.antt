@@ -147,8 +147,8 @@ module _ {T : Type 0} (tag : T → List (List ℕ)) (v w : MgrView) where
   close_gained o Close.NotOpen h = λ f. entered_weighs f (stripe_of o.fd) v w (Entries.Close o Closes.NotOpen) h
   close_gained o Close.Spent h = λ f. spent_weighs f (stripe_of o.fd) v w h
 
-pub calls_weigh : {T : Type 0} (tag : T → List (List ℕ)) → CallsWeigh tag
-calls_weigh tag = record {
+pub calls_weigh_all : {T : Type 0} (tag : T → List (List ℕ)) → CallsWeigh tag
+calls_weigh_all tag = record {
   entered = λ s e v w a f. entered_weighs f s v w e a;
   spent = λ s v w a f. spent_weighs f s v w a;
   opened = λ v r w h. open_gained tag v w r h;

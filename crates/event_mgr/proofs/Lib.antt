@@ -11,3 +11,4 @@ pub mod StripeLemmas
 pub mod Weights
 pub mod BothWeights
 pub mod Sums
+mod Shared

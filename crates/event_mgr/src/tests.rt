@@ -45,6 +45,8 @@ impl Part for Room {
 
     ghost entry = { λ call reply. reply };
 
+    ghost answers = { λ call reply. Unit {0} };
+
     fn apply(&mut self, _call: ()) -> bool {
         match &self.door {
             Some(door) => {
