@@ -1,12 +1,14 @@
 // What holds of all that passes of a manager have seen and made. Each law is the contract of a function that does
 // nothing when it runs.
-ghost use Rattle.std.specs.Prelude.{ℕ, List, ◌∷◌, All};
+ghost use Rattle.std.specs.Prelude.{◌≡◌, ℕ, List, ◌∷◌, All};
+ghost use Rattle.turn_cell.specs.View.{first_view};
+ghost use Rattle.turn_cell.specs.Calls.{IsSplit};
 ghost use Rattle.reg_keys.specs.AllStripes.{HappensOnce};
 ghost use Rattle.reg_keys.specs.declared.opening.Opening.{Opening};
 ghost use Rattle.reg_keys.specs.Promises.{RunsOnce, HasOneEventEach};
 ghost use Rattle.event_mgr.specs.Stripes.{past_in};
-ghost use Rattle.event_mgr.specs.Manager.{MgrView, IsLawful, IsClosedForGood, seen_in};
-ghost use Rattle.event_mgr.specs.Level.{AreLevel, AddUp};
+ghost use Rattle.event_mgr.specs.Manager.{MgrView, IsLawful, IsFirst, IsMgrSplit, IsClosedForGood, seen_in};
+ghost use Rattle.event_mgr.specs.Level.{MgrCell, known_at, AreLevel, AddUp};
 ghost use Rattle.event_mgr.specs.Weighing.{CallsWeigh};
 
 use reg_keys::{
@@ -39,6 +41,14 @@ pub fn what_was_closed_stays_closed<T: Load>()
 {
     legal_closes_for_good();
 }
+
+/// A manager's first pass is the first of each of its 33 cells, and where it is split each of them is. So
+/// passes that are made by splitting share all seats, as `level` asks for.
+pub fn manager_passes_are_split_cell_by_cell()
+    ensures first { (v : MgrView) → IsFirst v → (k : MgrCell) → (name : List ℕ) × (known_at k v ≡ first_view name) }
+    ensures split { (v : MgrView) (w : MgrView) (o : MgrView) → IsLawful v → IsMgrSplit v w o →
+        (k : MgrCell) → IsSplit (known_at k v) (known_at k w) (known_at k o) }
+{}
 
 /// Whatever entries weigh, the own entries of all passes that were brought level weigh together what
 /// the histories weigh that each of them has seen, and these are legal.

@@ -36,7 +36,8 @@ pub use answers::{
 };
 pub use cells::{Cells, CellsPass};
 pub use laws::{
-    callbacks_run_once, calls_weigh, level_passes_add_up, what_was_closed_stays_closed,
+    callbacks_run_once, calls_weigh, level_passes_add_up, manager_passes_are_split_cell_by_cell,
+    what_was_closed_stays_closed,
 };
 pub use manager::EventManager;
 pub use numbers::{Numbers, NumbersCall, NumbersEntry, NumbersReply};

@@ -1,5 +1,5 @@
 -- Passes that are split off one by one share all seats.
-use Rattle.std.proofs.Common.{◌≡◌, ℕ, ◌%◌, ◌^◌, ◌<◌, List, [], ◌∷◌, ◌++◌, set, ap, ◌∙◌, Some, arith, mod-lt}
+use Rattle.std.proofs.Common.{◌≡◌, ℕ, ◌%◌, ◌^◌, ◌<◌, List, [], ◌∷◌, ◌++◌, set, sym, subst, ap, ◌∙◌, Some, arith, mod-lt}
 use Rattle.std.specs.Prelude.{slice_get}
 use Rattle.std.proofs.lemmas.List.Elements.{All-set, All-append}
 use Rattle.turn_cell.specs.declared.view.View.{View}
@@ -9,7 +9,9 @@ use Rattle.turn_cell.specs.View.{first_view}
 use Rattle.turn_cell.specs.Calls.{view_of, IsSplit}
 use Rattle.turn_cell.proofs.Weights.{one_eq, weigh_set, weigh-append}
 use Rattle.level.specs.Leveling.{views_of, HoldsEachOnce, IsFresh, AreFresh}
-use Rattle.level.proofs.Lists.{All-get, one_all, map_set, map_last}
+use Rattle.level.specs.Meanings.{PassMeaning, views, IsFirstPass, WereSplit, KeepSeats, HoldAllSeats}
+use Rattle.level.proofs.Lists.{All-get, one_all, map_set, map_last, get_map}
+use Rattle.level.proofs.Levels.{once_by}
 
 module _ {E : Type 0} where
   -- the first pass alone has each number once
@@ -52,3 +54,17 @@ module _ {P E : Type 0} where
   -- what the passes know, where the first was split
   pub views_split : (ps : List (Pass P E)) (p o : Pass P E) → views_of (set ps 0 p ++ o ∷ []) ≡ set (views_of ps) 0 (view_of p) ++ view_of o ∷ []
   views_split ps p o = map_last view_of (set ps 0 p) o ∙ ap (λ l. l ++ view_of o ∷ []) (map_set view_of ps 0 p)
+
+-- ---- the same of each cell
+
+module _ {P O : Type 0} (m : PassMeaning P O) where
+  pub first_seats : (p : P) → IsFirstPass m p → HoldAllSeats m (p ∷ [])
+  first_seats p first k = first_once (m.view k p) (first k).0 (first k).1
+
+  pub more_seats : (ps : List P) (i : ℕ) (p p' o : P) → slice_get ps i ≡ Some p → WereSplit m p p' o → HoldAllSeats m ps → HoldAllSeats m (set ps i p' ++ o ∷ [])
+  more_seats ps i p p' o at cut once k = subst HoldsEachOnce
+      (sym (map_last (m.view k) (set ps i p') o ∙ ap (λ l. l ++ m.view k o ∷ []) (map_set (m.view k) ps i p')))
+      (once_more (views m k ps) i (m.view k p) (m.view k p') (m.view k o) (get_map (m.view k) ps i p at) (cut k) (once k))
+
+  pub kept_seats : (ps qs : List P) → KeepSeats m ps qs → HoldAllSeats m ps → HoldAllSeats m qs
+  kept_seats ps qs same once k = once_by (views m k ps) (views m k qs) (same k) (once k)

@@ -1,7 +1,9 @@
 -- To be believed: what contracts know of a pass, or of several that are held together, and what it says that they shared or were brought level.
-use Rattle.std.specs.Prelude.{List, map, All}
+use Rattle.std.specs.Prelude.{◌≡◌, ℕ, List, map, All}
 use Rattle.turn_cell.specs.declared.view.View.{View}
-use Rattle.level.specs.Leveling.{HasShared, HoldsEachOnce, KeepsOwn, BroughtLevel}
+use Rattle.turn_cell.specs.View.{first_view}
+use Rattle.turn_cell.specs.Calls.{IsSplit}
+use Rattle.level.specs.Leveling.{classes_of, HasShared, HoldsEachOnce, KeepsOwn, BroughtLevel}
 
 -- what the contracts of passes speak of
 pub record PassMeaning (P O : Type 0) : Type 1 where
@@ -27,9 +29,21 @@ module _ {P O : Type 0} (m : PassMeaning P O) where
   abbrev pub HaveShared : P → P → P → P → Type 0
   HaveShared p q p' q' = (k : m.cell) → HasShared (m.view k p) (m.view k q) (m.view k p') (m.view k q')
 
+  -- of each cell, the pass was split: it was p and is p', and the new one is o
+  abbrev pub WereSplit : P → P → P → Type 0
+  WereSplit p p' o = (k : m.cell) → IsSplit (m.view k p) (m.view k p') (m.view k o)
+
+  -- of each cell, it is the first pass, which has all seats and has seen nothing
+  abbrev pub IsFirstPass : P → Type 0
+  IsFirstPass p = (k : m.cell) → (name : List ℕ) × (m.view k p ≡ first_view name)
+
   -- of each cell, each number is a seat of exactly one of the passes
   abbrev pub HoldAllSeats : List P → Type 0
   HoldAllSeats ps = (k : m.cell) → HoldsEachOnce (views k ps)
+
+  -- of each cell, the passes at the same places have the seats that they had
+  abbrev pub KeepSeats : List P → List P → Type 0
+  KeepSeats ps qs = (k : m.cell) → map classes_of (views k qs) ≡ map classes_of (views k ps)
 
   -- of each cell, no pass made a call, and none forgot anything
   abbrev pub KeepOwn : List P → List P → Type 0

@@ -15,6 +15,10 @@ mod level;
 // A cell with a pass for each of several threads.
 mod make;
 
+// Seats that stay shared.
+mod laws;
+
+pub use laws::split_passes_hold_all_seats;
 pub use level::bring_level;
 pub use make::shared_out;
 pub use share::Share;
