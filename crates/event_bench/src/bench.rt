@@ -49,18 +49,18 @@ fn set_up<T: Job, R: Wait>(
     ensures { IfOk result (λ r. All (λ row. IsOfMgr r.0 row.pass) r.1.items) }
 {
     let (mgr, mut first) = EventManager::new(alloc)?;
-    let mut rows = Vec::new(alloc);
+    let mut rows = Vec::with_capacity(alloc, threads)?;
     for _ in 0..threads {
         let mut pass = mgr.split(alloc, &mut first)?;
         let OpenOut::Opened(opening) = mgr.open_fd(rt, &mut pass) else {
             return Err(Fault::NotOpened);
         };
-        rows.push(Row {
+        rows.push_reserved(Row {
             pass,
             opening,
             mark: opening.number,
             done: 0,
-        })?;
+        });
     }
     Ok((mgr, rows))
 }

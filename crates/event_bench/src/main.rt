@@ -21,7 +21,6 @@ use bench::run;
 use job::{Large, Small};
 use order::{Order, Size, order_of};
 use std::env;
-use std::alloc::AllocError;
 use std::process::ExitCode;
 
 /// The command line was none of this program's.
@@ -31,11 +30,8 @@ const USAGE: u8 = 2;
 const FAILED: u8 = 3;
 
 fn main(rt: HostRuntime) -> ExitCode {
-    let Ok(words) = words_of(&rt) else {
-        return ExitCode::from(FAILED);
-    };
-    let Some(order) = order_of(&words) else {
-        let _ = eprintln!(&rt; "words: report|register|dispatch|cycle 8|400 THREADS ROUNDS");
+    let Some(order) = order_of(&words_of(&rt)) else {
+        let _ = eprintln!(rt; "words: report|register|dispatch|cycle 8|400 THREADS ROUNDS");
         return ExitCode::from(USAGE);
     };
     let outcome = match order.size {
@@ -45,20 +41,23 @@ fn main(rt: HostRuntime) -> ExitCode {
     let Ok(rounds) = outcome else {
         return ExitCode::from(FAILED);
     };
-    match println!(&rt; "{rounds} rounds") {
+    match println!(rt; "{rounds} rounds") {
         Ok(()) => ExitCode::SUCCESS,
         Err(_) => ExitCode::from(FAILED),
     }
 }
 
-/// The words of the command line without the program's name.
-fn words_of(rt: &HostRuntime) -> Result<Vec<String>, AllocError> {
+/// The words of the command line without the program's name; none where they aren't text, or don't fit into
+/// memory.
+fn words_of(rt: &HostRuntime) -> Vec<String> {
     let mut words = Vec::new(rt.alloc());
     let Ok(args) = env::args(rt) else {
-        return Ok(words);
+        return words;
     };
     for word in args.skip(1) {
-        words.push(word)?;
+        if words.push(word).is_err() {
+            return words;
+        }
     }
-    Ok(words)
+    words
 }
