@@ -5,7 +5,7 @@ ghost use Rattle.event_mgr.specs.Manager.{IsOfMgr};
 use crate::job::Job;
 use crate::order::Order;
 use crate::rounds::{Row, make_rounds};
-use event_mgr::{EventManager, OpenOut};
+use event_mgr::{EventManager, MgrPass, OpenOut};
 use std::alloc::{AllocError, Global};
 use std::sync::Wait;
 use std::thread::{Threads, for_each_mut};
@@ -51,18 +51,33 @@ fn set_up<T: Job, R: Wait>(
     let (mgr, mut first) = EventManager::new(alloc)?;
     let mut rows = Vec::with_capacity(alloc, threads)?;
     for _ in 0..threads {
-        let mut pass = mgr.split(alloc, &mut first)?;
-        let OpenOut::Opened(opening) = mgr.open_fd(rt, &mut pass) else {
-            return Err(Fault::NotOpened);
-        };
-        rows.push_reserved(Row {
-            pass,
-            opening,
-            mark: opening.number,
-            done: 0,
-        });
+        let row = new_row(rt, alloc, &mgr, &mut first)?;
+        rows.push_reserved(row);
     }
     Ok((mgr, rows))
+}
+
+/// A pass that is split off the first, with an opening that it makes.
+fn new_row<T: Job, R: Wait>(
+    rt: &R,
+    alloc: Global,
+    mgr: &EventManager<T>,
+    first: &mut MgrPass<T>,
+) -> Result<Row<T>, Fault>
+    requires { IsOfMgr mgr.now first.old }
+    ensures first { IsOfMgr mgr.now first.new }
+    ensures row { IfOk result (λ row. IsOfMgr mgr.now row.pass) }
+{
+    let mut pass = mgr.split(alloc, first)?;
+    let OpenOut::Opened(opening) = mgr.open_fd(rt, &mut pass) else {
+        return Err(Fault::NotOpened);
+    };
+    Ok(Row {
+        pass,
+        opening,
+        mark: opening.number,
+        done: 0,
+    })
 }
 
 /// Makes the rounds of each row in a thread of its own.
