@@ -5,7 +5,8 @@ use Rattle.std.specs.Int.{bit_at}
 use Rattle.std.proofs.lemmas.Bool.{eqb-true, eqb-false, eq-eqb, ne_eqb, cases_eq, or_left}
 use Rattle.std.proofs.lemmas.List.{get_or_default, get_or-set_same, get_or-set_other, length-set, get_or-replicate}
 use Rattle.std.proofs.lemmas.Nat.Bits.{bit_at-zero, bit_at_ones, same_from_bits_below}
-use Rattle.event_mgr.specs.FreeNumbers.{put_out, put_in, IsLeastFree, AreAllOut, IsBitmap}
+use Rattle.event_mgr.specs.FreeNumbers.{put_out, put_in, IsBitmap}
+use Rattle.event_mgr.specs.Numbers.{IsLeastFree, AreAllOut}
 
 -- the word that was read at a place
 pub read_word : (words : List ℕ) (i w : ℕ) → length words ≡ 64 → i < 64 → w ≡ get_or words i w → get_or words i 0 ≡ w

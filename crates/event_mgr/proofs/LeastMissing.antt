@@ -6,7 +6,7 @@ use Rattle.event_mgr.specs.declared.numbers.NumbersCall.TheVariants.{Draw, GiveB
 use Rattle.event_mgr.specs.declared.numbers.NumbersReply.{NumbersReply}
 use Rattle.event_mgr.specs.declared.numbers.NumbersReply.TheVariants.{Drawn, AllOut, Back, NotOut}
 use Rattle.event_mgr.specs.declared.numbers.NumbersEntry.{NumbersEntry}
-use Rattle.event_mgr.specs.FreeNumbers.{IsLeastFree, AreAllOut}
+use Rattle.event_mgr.specs.Numbers.{IsLeastFree, AreAllOut}
 use Rattle.event_mgr.specs.Numbers.{is_among, or_next, least_missing, numbers_out, drawn, number_reply}
 
 -- what the answer to a search below k says

@@ -3,7 +3,6 @@ pub mod KindLemmas
 pub mod LeastMissing
 pub mod ManagerLemmas
 pub mod NumbersOut
-pub mod Owners
 pub mod Places
 pub mod PlainNumbers
 pub mod RowLemmas
@@ -12,3 +11,4 @@ pub mod StripeLemmas
 pub mod Weights
 pub mod BothWeights
 pub mod Sums
+mod Shared

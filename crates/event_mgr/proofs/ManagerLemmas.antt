@@ -7,6 +7,7 @@ use Rattle.std.proofs.lemmas.List.{length-set}
 use Rattle.reg_keys.specs.declared.entry.OpenOutcome.TheVariants as Opens
 use Rattle.reg_keys.specs.declared.entry.Entry.{Entry}
 use Rattle.reg_keys.specs.declared.entry.Entry.TheVariants as Entries
+use Rattle.reg_keys.specs.OwnOpenings.{NamesItsOwn, NamesOwnOpenings}
 use Rattle.reg_keys.specs.Replies.{IsLegal}
 use Rattle.turn_cell.specs.declared.pass.Pass.{Pass}
 use Rattle.turn_cell.specs.declared.pass.Stepped.{Stepped}
@@ -16,7 +17,7 @@ use Rattle.turn_cell.specs.declared.pass.Tried.TheVariants as Try
 use Rattle.turn_cell.specs.declared.view.View.{View}
 use Rattle.turn_cell.specs.History.{Log, longer}
 use Rattle.turn_cell.specs.Calls.{view_of, IsStep, HasStepped, Entered, IsRefused, IsSplit, IsJoined}
-use Rattle.stripe_table.specs.Calls.{entry_of, no_entry, IsOfStripe}
+use Rattle.stripe_table.specs.Calls.{entry_of, IsAnswerTo, IsOfStripe}
 use Rattle.stripe_table.specs.declared.stripe.Stripe.{Stripe}
 use Rattle.stripe_table.specs.declared.calls.StripeCall.{StripeCall}
 use Rattle.stripe_table.specs.declared.calls.Reply.{Reply}
@@ -33,8 +34,8 @@ use Rattle.event_mgr.specs.declared.answers.OpenOut.TheVariants as Open
 use Rattle.event_mgr.specs.Stripes.{stripe_of, past_in, StripeEntered, StripeSpent, StripeTried, StripeTriedSpent, GivenBack}
 use Rattle.event_mgr.specs.Manager.{MgrView, IsLawful, EnteredAt, SpentAt, TriedAt, Drew, HasOpened, IsMgrSplit, IsMgrJoined, IsMgrShared}
 use Rattle.event_mgr.specs.Kinds.{HasCalled, HasTried}
-use Rattle.event_mgr.proofs.Places.{some_at, each_set, at_imp, map_at}
-use Rattle.event_mgr.proofs.StripeLemmas.{stripe_stands, stripe_name, stripe_entered, stripe_spent, numbers_stand, numbers_name, numbers_entered, numbers_spent, entered_legal, entered_last, numbers_last}
+use Rattle.event_mgr.proofs.Places.{some_at, each_set, at_imp, at_there, map_at}
+use Rattle.event_mgr.proofs.StripeLemmas.{stripe_stands, stripe_name, stripe_entered, stripe_spent, numbers_stand, numbers_name, numbers_entered, numbers_spent, entered_last, numbers_last}
 use Rattle.event_mgr.proofs.KindLemmas.{answered}
 
 -- the views of a row know their stripes' names
@@ -56,54 +57,66 @@ module _ (v w : MgrView) (l : IsLawful v) where
 module _ {T : Type 0} (tag : T → List (List ℕ)) (call : StripeCall T) where
   -- what each answer of a call says of one stripe's views
   abbrev Steps : Stepped (Stripe T) (StripeCall T) (Reply T) Entry → View Entry → View Entry → Type 0
-  Steps r x y = HasStepped (stripe_stands tag) stripe_name (entry_of tag) call x r y
+  Steps r x y = HasStepped (stripe_stands tag) stripe_name (entry_of tag) IsAnswerTo call x r y
 
   abbrev Tries : Tried (Stripe T) (StripeCall T) (Reply T) Entry → View Entry → View Entry → Type 0
-  Tries r x y = IsStep (stripe_stands tag) stripe_name (entry_of tag) call x r y
+  Tries r x y = IsStep (stripe_stands tag) stripe_name (entry_of tag) IsAnswerTo call x r y
 
-  module _ (s : ℕ) (x y : View Entry) where
+  module _ (s : ℕ) (x y : View Entry) (name : x.name ≡ name_at s) where
     -- the history of the stripe stays legal
-    steps_legal : (r : Stepped (Stripe T) (StripeCall T) (Reply T) Entry) → x.name ≡ name_at s → Steps r x y → IsLegal s 1 (past_in x.seen) → IsLegal s 1 (past_in y.seen)
-    steps_legal (Whole.Done reply) name k old = entered_legal s (entry_of tag call reply) x y name (stripe_entered tag (entry_of tag call reply) x y k.0)
-    steps_legal (Whole.Spent back) name k old = subst (λ (h : Log Entry). IsLegal s 1 (past_in h)) (sym k.1.unmoved.seen) old
+    steps_legal : (r : Stepped (Stripe T) (StripeCall T) (Reply T) Entry) → Steps r x y → IsLegal s 1 (past_in x.seen) → IsLegal s 1 (past_in y.seen)
+    steps_legal (Whole.Done reply) k old = (stripe_entered tag s x y name (entry_of tag call reply) k.0).legal
+    steps_legal (Whole.Spent back) k old = subst (λ (h : Log Entry). IsLegal s 1 (past_in h)) (sym k.1.unmoved.seen) old
 
-    tries_legal : (r : Tried (Stripe T) (StripeCall T) (Reply T) Entry) → x.name ≡ name_at s → Tries r x y → IsLegal s 1 (past_in x.seen) → IsLegal s 1 (past_in y.seen)
-    tries_legal (Try.Done reply) name k old = entered_legal s (entry_of tag call reply) x y name (stripe_entered tag (entry_of tag call reply) x y k.0)
-    tries_legal (Try.Busy count back) name k old = subst (λ (h : Log Entry). IsLegal s 1 (past_in h)) (sym (ap (λ (z : View Entry). z.seen) k.2.1)) old
-    tries_legal (Try.Spent back) name k old = subst (λ (h : Log Entry). IsLegal s 1 (past_in h)) (sym k.1.unmoved.seen) old
+    tries_legal : (r : Tried (Stripe T) (StripeCall T) (Reply T) Entry) → Tries r x y → IsLegal s 1 (past_in x.seen) → IsLegal s 1 (past_in y.seen)
+    tries_legal (Try.Done reply) k old = (stripe_entered tag s x y name (entry_of tag call reply) k.0).legal
+    tries_legal (Try.Busy count back) k old = subst (λ (h : Log Entry). IsLegal s 1 (past_in h)) (sym (ap (λ (z : View Entry). z.seen) k.2.1)) old
+    tries_legal (Try.Spent back) k old = subst (λ (h : Log Entry). IsLegal s 1 (past_in h)) (sym k.1.unmoved.seen) old
 
-  module _ (in_kind : (s c : ℕ) (past : List Entry) → IsLegal s c (no_entry ∷ past) → ⊥) (s : ℕ) (small : s < 32) (may : IsOfStripe s call) (v w : MgrView) (same : w.numbers ≡ v.numbers) (names : AreNamed v.stripes) where
+  module _ (names_own : (s c : ℕ) (past : List Entry) → s < 32 → IsLegal s c past → NamesOwnOpenings s past) (s : ℕ) (small : s < 32) (may : IsOfStripe s call) (v w : MgrView) (same : w.numbers ≡ v.numbers) (names : AreNamed v.stripes) where
+    -- what the reply of the entry that was made names is its own
+    names_its_own : (e : Entry) (x y : View Entry) → StripeEntered s e x y → NamesItsOwn s e
+    names_its_own e x y k = (names_own s 1 (e ∷ past_in (x.seen ++ k.between)) small (entered_last s e x y k)).replies e (inl refl)
+
     pub called : (r : Stepped (Stripe T) (StripeCall T) (Reply T) Entry) → At s (Steps r) v.stripes w.stripes → HasCalled tag s call v r w
-    called (Whole.Done reply) a = let e = entry_of tag call reply in let k = stripe_entered tag e a.before a.after a.moved.0 in
-        answered in_kind (λ e. EnteredAt s e v w) s (past_in (a.before.seen ++ k.between)) small tag call reply may
-        (record { stripe = at_imp s (Steps (Whole.Done reply)) (StripeEntered e) v.stripes w.stripes (λ x y k. stripe_entered tag e x y k.0) a; numbers = same })
-        (entered_last s e a.before a.after (names s a.before a.there) k)
-    called (Whole.Spent back) a = (a.moved.0, record { stripe = at_imp s (Steps (Whole.Spent back)) StripeSpent v.stripes w.stripes (λ x y k. stripe_spent tag x y k.1) a; numbers = same })
+    called (Whole.Done reply) a =
+        let e = entry_of tag call reply in
+        let k = stripe_entered tag s a.before a.after (names s a.before a.there) e a.moved.0 in
+        answered s tag (λ e. EnteredAt s e v w) call reply may a.moved.2
+        (record { stripe = at_there s (Steps (Whole.Done reply)) (StripeEntered s e) v.stripes w.stripes (λ x y there k. stripe_entered tag s x y (names s x there) e k.0) a; numbers = same })
+        (names_its_own e a.before a.after k)
+    called (Whole.Spent back) a = (a.moved.0, record { stripe = at_there s (Steps (Whole.Spent back)) (StripeSpent s) v.stripes w.stripes (λ x y there k. stripe_spent tag s x y (names s x there) k.1) a; numbers = same })
 
     pub tried : (r : Tried (Stripe T) (StripeCall T) (Reply T) Entry) → At s (Tries r) v.stripes w.stripes → HasTried tag s call v r w
-    tried (Try.Done reply) a = let e = entry_of tag call reply in let k = stripe_entered tag e a.before a.after a.moved.0 in
-        answered in_kind (λ e. TriedAt s e v w) s (past_in (a.before.seen ++ k.between)) small tag call reply may
-        (record { stripe = at_imp s (Tries (Try.Done reply)) (StripeTried e) v.stripes w.stripes (λ x y k. (stripe_entered tag e x y k.0, k.1)) a; numbers = same })
-        (entered_last s e a.before a.after (names s a.before a.there) k)
+    tried (Try.Done reply) a =
+        let e = entry_of tag call reply in
+        let k = stripe_entered tag s a.before a.after (names s a.before a.there) e a.moved.0 in
+        answered s tag (λ e. TriedAt s e v w) call reply may a.moved.2
+        (record { stripe = at_there s (Tries (Try.Done reply)) (StripeTried s e) v.stripes w.stripes (λ x y there k. (stripe_entered tag s x y (names s x there) e k.0, k.1)) a; numbers = same })
+        (names_its_own e a.before a.after k)
     tried (Try.Busy count back) a = (a.moved.0, (refl, record { stripe = at_imp s (Tries (Try.Busy count back)) (λ x y. (count ≡ y.found / 2) × IsRefused x y) v.stripes w.stripes (λ x y k. (k.1, k.2)) a; numbers = same }))
-    tried (Try.Spent back) a = (a.moved.0, record { stripe = at_imp s (Tries (Try.Spent back)) StripeTriedSpent v.stripes w.stripes (λ x y k. (stripe_spent tag x y k.1, k.2)) a; numbers = same })
+    tried (Try.Spent back) a = (a.moved.0, record { stripe = at_there s (Tries (Try.Spent back)) (StripeTriedSpent s) v.stripes w.stripes (λ x y there k. (stripe_spent tag s x y (names s x there) k.1, k.2)) a; numbers = same })
 
     module _ (l : IsLawful v) where
       still_numbers : IsNumbersPast (numbers_past w.numbers.seen)
       still_numbers = subst (λ (x : View NumbersEntry). IsNumbersPast (numbers_past x.seen)) (sym same) l.numbers
 
       pub called_lawful : (r : Stepped (Stripe T) (StripeCall T) (Reply T) Entry) → At s (Steps r) v.stripes w.stripes → IsLawful w
-      called_lawful r a = lawful_at v w l s (Steps r) (λ x y at k old. steps_legal s x y r (names s x at) k old) a still_numbers
+      called_lawful r a = lawful_at v w l s (Steps r) (λ x y at k old. steps_legal s x y (names s x at) r k old) a still_numbers
 
       pub tried_lawful : (r : Tried (Stripe T) (StripeCall T) (Reply T) Entry) → At s (Tries r) v.stripes w.stripes → IsLawful w
-      tried_lawful r a = lawful_at v w l s (Tries r) (λ x y at k old. tries_legal s x y r (names s x at) k old) a still_numbers
+      tried_lawful r a = lawful_at v w l s (Tries r) (λ x y at k old. tries_legal s x y (names s x at) r k old) a still_numbers
 
 -- ---- numbers
 
 abbrev pub numbers_entry : NumbersCall → NumbersReply → NumbersEntry
 numbers_entry call reply = record { call = call; reply = reply }
 
-pub given_back : (fd : ℕ) (v w : View NumbersEntry) (r : Stepped Numbers NumbersCall NumbersReply NumbersEntry) → HasStepped numbers_stand numbers_name numbers_entry (GiveBack fd) v r w → GivenBack fd v w
+-- the entry tells all of a reply
+abbrev pub numbers_answer : NumbersCall → NumbersReply → Type 0
+numbers_answer call reply = Unit {0}
+
+pub given_back : (fd : ℕ) (v w : View NumbersEntry) (r : Stepped Numbers NumbersCall NumbersReply NumbersEntry) → HasStepped numbers_stand numbers_name numbers_entry numbers_answer (GiveBack fd) v r w → GivenBack fd v w
 given_back fd v w (Whole.Done reply) s = inl (reply, numbers_entered _ v w s.0)
 given_back fd v w (Whole.Spent back) s = inr (numbers_spent v w s.1)
 
@@ -117,7 +130,7 @@ refused_by_cell v u w n fd s drew at same back a = inr (record {
   fd = fd;
   drawn = n;
   drew = drew;
-  refused = subst (λ (x : ℕ × List (View Entry)). At x.0 (λ x y. StripeEntered (Entries.Open fd Opens.Spent) x y ⊎ StripeSpent x y) v.stripes x.1) (λ i. (at i, sym same i)) (at_imp s StripeSpent (λ x y. StripeEntered (Entries.Open fd Opens.Spent) x y ⊎ StripeSpent x y) v.stripes u.stripes (λ x y k. inr k) a.stripe);
+  refused = subst (λ (x : ℕ × List (View Entry)). At x.0 (λ x y. StripeEntered (stripe_of fd) (Entries.Open fd Opens.Spent) x y ⊎ StripeSpent (stripe_of fd) x y) v.stripes x.1) (λ i. (at i, sym same i)) (at_imp s (StripeSpent s) (λ x y. StripeEntered (stripe_of fd) (Entries.Open fd Opens.Spent) x y ⊎ StripeSpent (stripe_of fd) x y) v.stripes u.stripes (λ x y k. inr (subst (λ (t : ℕ). StripeSpent t x y) at k)) a.stripe);
   back = subst (λ (m : View NumbersEntry). GivenBack fd m w.numbers) a.numbers back;
 })
 

@@ -9,7 +9,8 @@ use Rattle.event_mgr.specs.declared.numbers.NumbersCall.TheVariants.{Draw, GiveB
 use Rattle.event_mgr.specs.declared.numbers.NumbersReply.TheVariants.{Drawn, AllOut, Back, NotOut}
 use Rattle.event_mgr.specs.declared.numbers.NumbersEntry.{NumbersEntry}
 use Rattle.event_mgr.specs.declared.numbers.Numbers.{Numbers}
-use Rattle.event_mgr.specs.FreeNumbers.{Shows, IsBitmap, IsLeastFree, AreAllOut, put_out, put_in}
+use Rattle.event_mgr.specs.FreeNumbers.{Shows, IsBitmap, put_out, put_in}
+use Rattle.event_mgr.specs.Numbers.{IsLeastFree, AreAllOut}
 use Rattle.event_mgr.specs.Numbers.{is_among, numbers_out}
 use Rattle.event_mgr.specs.NumbersStand.{NumbersStand}
 use Rattle.event_mgr.proofs.LeastMissing.{draw_is_least, draw_is_all_out}

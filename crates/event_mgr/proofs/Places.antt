@@ -54,6 +54,9 @@ module _ {A : Type 0} where
   pub at_map : {B : Type 0} (f : A → B) (R : B → B → Type 0) (xs : List A) (i : ℕ) (y z : A) → slice_get xs i ≡ Some y → R (f y) (f z) → At i R (map f xs) (map f (set xs i z))
   at_map f R xs i y z e r = record { before = f y; after = f z; there = slice_get-map f xs i ∙ ap (option_map f) e; others = map-set f xs i z; moved = r }
 
+  pub at_there : (i : ℕ) (R S : A → A → Type 0) (vs ws : List A) → ((v w : A) → slice_get vs i ≡ Some v → R v w → S v w) → At i R vs ws → At i S vs ws
+  at_there i R S vs ws f a = record { before = a.before; after = a.after; there = a.there; others = a.others; moved = f a.before a.after a.there a.moved }
+
   pub at_imp : (i : ℕ) (R S : A → A → Type 0) (vs ws : List A) → ((v w : A) → R v w → S v w) → At i R vs ws → At i S vs ws
   at_imp i R S vs ws f a = record { before = a.before; after = a.after; there = a.there; others = a.others; moved = f a.before a.after a.moved }
 

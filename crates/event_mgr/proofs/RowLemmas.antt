@@ -14,7 +14,8 @@ use Rattle.turn_cell.specs.History.{Log}
 use Rattle.reg_keys.specs.declared.limits.TheConstants.{STRIPES}
 use Rattle.turn_cell.specs.View.{first_view}
 use Rattle.turn_cell.specs.Calls.{view_of, IsOf, IsSplit, IsJoined}
-use Rattle.event_mgr.specs.Rows.{IsRow, AreFresh, AreFirst, AreSplit, AreJoined, HasShared, AreShared, name_at}
+use Rattle.event_mgr.specs.Rows.{IsRow, AreUnused, AreFirst, AreSplit, AreJoined, AreShared, name_at}
+use Rattle.level.specs.Leveling.{HasShared}
 use Rattle.event_mgr.proofs.Places.{get_set, get_snoc, get_before, get_behind, each_set, each_snoc, map_at}
 
 module _ {P C R E : Type 0} where
@@ -241,7 +242,7 @@ module _ {P C R E : Type 0} where
   first_whole cs ps many count f = record { cells = many; passes = count; each = f.each; names = f.names }
 
 -- one more new part
-pub fresh_next : {P E : Type 0} (stands : P → Log E → Type 0) (name_of : P → List ℕ) (ps : List P) (i : ℕ) (p : P) → length ps ≡ i → name_of p ≡ name_at i → stands p [] → AreFresh stands name_of ps → AreFresh stands name_of (ps ++ p ∷ [])
+pub fresh_next : {P E : Type 0} (stands : P → Log E → Type 0) (name_of : P → List ℕ) (ps : List P) (i : ℕ) (p : P) → length ps ≡ i → name_of p ≡ name_at i → stands p [] → AreUnused stands name_of ps → AreUnused stands name_of (ps ++ p ∷ [])
 fresh_next stands name_of ps i p count name fresh all = each_snoc (λ j q. (name_of q ≡ name_at j) × stands q []) ps p (name ∙ ap name_at (sym count), fresh) all
 
 -- the same where the place is given

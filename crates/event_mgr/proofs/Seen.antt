@@ -23,7 +23,7 @@ legal_seen v l s = by_place (slice_get v.stripes s) refl
 -- it goes on from what was seen, and ends with the entry that was made
 pub entered_seen : (s : ℕ) (e : Entry) (v w : MgrView) → EnteredAt s e v w → (between : Log Entry) × (n : ℕ) × (seen_in s w ≡ (seen_in s v ++ between) ++ (n, e) ∷ [])
 entered_seen s e v w a = let k = a.stripe.moved in
-    (k.between, seat_of a.stripe.before, ap seen_by (stripe_after s (StripeEntered e) v w a) ∙ (k.seen ∙ ap (λ (l : Log Entry). (l ++ k.between) ++ (seat_of a.stripe.before, e) ∷ []) (sym (ap seen_by a.stripe.there))))
+    (k.between, seat_of a.stripe.before, ap seen_by (stripe_after s (StripeEntered s e) v w a) ∙ (k.seen ∙ ap (λ (l : Log Entry). (l ++ k.between) ++ (seat_of a.stripe.before, e) ∷ []) (sym (ap seen_by a.stripe.there))))
 
 -- so the entry is one of the past
 pub entered_is_in : (s : ℕ) (e : Entry) (v w : MgrView) → EnteredAt s e v w → IsIn e (past_in (seen_in s w))

@@ -17,37 +17,12 @@ use Rattle.event_mgr.specs.NumbersStand.{NumbersStand}
 use Rattle.event_mgr.specs.declared.numbers.Numbers.{Numbers}
 use Rattle.event_mgr.specs.declared.numbers.NumbersEntry.{NumbersEntry}
 use Rattle.event_mgr.specs.Rows.{name_at}
-use Rattle.event_mgr.specs.Stripes.{past_in, IsLegalFor, AreNumbersFor, StripeEntered, StripeSpent, NumbersEntered, NumbersSpent}
+use Rattle.event_mgr.specs.Stripes.{past_in, StripeEntered, StripeSpent, NumbersEntered, NumbersSpent}
 
--- a part known by less
-module _ {E P Q : Type 0} (stands : P → Log E → Type 0) (name_of : P → List ℕ) (stands' : Q → Log E → Type 0) (name_of' : Q → List ℕ) (f : P → Q) (stand : (p : P) (h : Log E) → stands p h → stands' (f p) h) (name : (p : P) → name_of' (f p) ≡ name_of p) where
-  pub entered_as : (e : E) (v w : View E) → Entered stands name_of e v w → Entered stands' name_of' e v w
-  entered_as e v w s = record {
-    between = s.between;
-    seen = s.seen;
-    foreign = s.foreign;
-    own = s.own;
-    name = s.name;
-    classes = s.classes;
-    are = s.are;
-    met_spent = s.met_spent;
-    found = s.found;
-    short = s.short;
-    part = f s.part;
-    is_part = (stand s.part w.seen s.is_part.0, name s.part ∙ s.is_part.1);
-  }
-
-  pub spent_as : (v w : View E) → WasSpent stands name_of v w → WasSpent stands' name_of' v w
-  spent_as v w s = record {
-    unmoved = s.unmoved;
-    found = s.found;
-    met_spent = s.met_spent;
-    log = s.log;
-    ahead = s.ahead;
-    full = s.full;
-    part = f s.part;
-    is_part = (stand s.part s.log s.is_part.0, name s.part ∙ s.is_part.1);
-  }
+-- a legal history, for the stripe and the first count that a name tells
+abbrev IsLegalFor : List ℕ → Log Entry → Type 0
+IsLegalFor (s ∷ c ∷ []) h = IsLegal s c (past_in h)
+IsLegalFor _ h = ⊥
 
 module _ {T : Type 0} where
   abbrev pub stripe_name : Stripe T → List ℕ
@@ -57,11 +32,32 @@ module _ {T : Type 0} (tag : T → List (List ℕ)) where
   abbrev pub stripe_stands : Stripe T → Log Entry → Type 0
   stripe_stands st h = Stands tag (past_in h) st
 
-  pub stripe_entered : (e : Entry) (v w : View Entry) → Entered stripe_stands stripe_name e v w → StripeEntered e v w
-  stripe_entered = entered_as stripe_stands stripe_name IsLegalFor (λ n. n) stripe_name (λ st h s. s.legal) (λ st. refl)
+  module _ (s : ℕ) (v w : View Entry) (name : v.name ≡ name_at s) where
+    pub stripe_entered : (e : Entry) → Entered stripe_stands stripe_name e v w → StripeEntered s e v w
+    stripe_entered e k = record {
+      between = k.between;
+      seen = k.seen;
+      foreign = k.foreign;
+      own = k.own;
+      legal = subst (λ (n : List ℕ). IsLegalFor n w.seen) (k.is_part.1 ∙ (k.name ∙ name)) k.is_part.0.legal;
+      name = k.name;
+      classes = k.classes;
+      are = k.are;
+      met_spent = k.met_spent;
+      found = k.found;
+      short = k.short;
+    }
 
-  pub stripe_spent : (v w : View Entry) → WasSpent stripe_stands stripe_name v w → StripeSpent v w
-  stripe_spent = spent_as stripe_stands stripe_name IsLegalFor (λ n. n) stripe_name (λ st h s. s.legal) (λ st. refl)
+    pub stripe_spent : WasSpent stripe_stands stripe_name v w → StripeSpent s v w
+    stripe_spent k = record {
+      unmoved = k.unmoved;
+      log = k.log;
+      ahead = k.ahead;
+      full = k.full;
+      legal = subst (λ (n : List ℕ). IsLegalFor n k.log) (k.is_part.1 ∙ name) k.is_part.0.legal;
+      found = k.found;
+      met_spent = k.met_spent;
+    }
 
 abbrev pub numbers_stand : Numbers → Log NumbersEntry → Type 0
 numbers_stand n h = NumbersStand (numbers_past h) n
@@ -70,26 +66,42 @@ abbrev pub numbers_name : Numbers → List ℕ
 numbers_name n = []
 
 pub numbers_entered : (e : NumbersEntry) (v w : View NumbersEntry) → Entered numbers_stand numbers_name e v w → NumbersEntered e v w
-numbers_entered = entered_as numbers_stand numbers_name AreNumbersFor (λ n. n) numbers_name (λ n h s. s.right) (λ n. refl)
+numbers_entered e v w k = record {
+  between = k.between;
+  seen = k.seen;
+  foreign = k.foreign;
+  own = k.own;
+  right = k.is_part.0.right;
+  name = k.name;
+  classes = k.classes;
+  are = k.are;
+  met_spent = k.met_spent;
+  found = k.found;
+  short = k.short;
+}
 
 pub numbers_spent : (v w : View NumbersEntry) → WasSpent numbers_stand numbers_name v w → NumbersSpent v w
-numbers_spent = spent_as numbers_stand numbers_name AreNumbersFor (λ n. n) numbers_name (λ n h s. s.right) (λ n. refl)
+numbers_spent v w k = record {
+  unmoved = k.unmoved;
+  log = k.log;
+  ahead = k.ahead;
+  full = k.full;
+  right = k.is_part.0.right;
+  found = k.found;
+  met_spent = k.met_spent;
+}
 
 -- the past with one entry more
 pub past_in-more : (l : Log Entry) (n : ℕ) (e : Entry) → past_in (l ++ (n, e) ∷ []) ≡ e ∷ past_in l
 past_in-more l n e = ap past_of (map-append (λ (x : ℕ × Entry). x.1) l ((n, e) ∷ [])) ∙ past_of-more (map (λ (x : ℕ × Entry). x.1) l) e
 
--- after an entry the history of the stripe is legal, and so is the entry after those before it
-module _ (s : ℕ) (e : Entry) (v w : View Entry) (name : v.name ≡ name_at s) (k : StripeEntered e v w) where
-  pub entered_legal : IsLegal s 1 (past_in w.seen)
-  entered_legal = subst (λ (n : List ℕ). IsLegalFor n w.seen) (k.is_part.1 ∙ (k.name ∙ name)) k.is_part.0
-
-  pub entered_last : IsLegal s 1 (e ∷ past_in (v.seen ++ k.between))
-  entered_last = subst (IsLegal s 1) (ap past_in k.seen ∙ past_in-more (v.seen ++ k.between) (seat_of v) e) entered_legal
+-- the entry that was made is legal after those before it
+pub entered_last : (s : ℕ) (e : Entry) (v w : View Entry) → (k : StripeEntered s e v w) → IsLegal s 1 (e ∷ past_in (v.seen ++ k.between))
+entered_last s e v w k = subst (IsLegal s 1) (ap past_in k.seen ∙ past_in-more (v.seen ++ k.between) (seat_of v) e) k.legal
 
 -- the past of the numbers with one entry more, and the entry after those before it
 pub numbers_past-more : (l : Log NumbersEntry) (n : ℕ) (e : NumbersEntry) → numbers_past (l ++ (n, e) ∷ []) ≡ e ∷ numbers_past l
 numbers_past-more l n e = ap reverse (map-append (λ (x : ℕ × NumbersEntry). x.1) l ((n, e) ∷ [])) ∙ reverse-append (map (λ (x : ℕ × NumbersEntry). x.1) l) (e ∷ [])
 
 pub numbers_last : (e : NumbersEntry) (v w : View NumbersEntry) → (k : NumbersEntered e v w) → IsNumbersPast (e ∷ numbers_past (v.seen ++ k.between))
-numbers_last e v w k = subst IsNumbersPast (ap numbers_past k.seen ∙ numbers_past-more (v.seen ++ k.between) (seat_of v) e) k.is_part.0
+numbers_last e v w k = subst IsNumbersPast (ap numbers_past k.seen ∙ numbers_past-more (v.seen ++ k.between) (seat_of v) e) k.right

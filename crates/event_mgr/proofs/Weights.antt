@@ -27,31 +27,31 @@ module _ (f : Entry → ℕ) (s : ℕ) (v w : MgrView) where
   weighs_same : (R : View Entry → View Entry → Type 0) → ((x y : View Entry) → R x y → own_entries y ≡ own_entries x) → OnlyAt s R v w → own_weight f w ≡ own_weight f v
   weighs_same R same a = let h = weighs_at R 0 (λ x y r. let e : own_weighs f y ≡ own_weighs f x = ap (weigh (λ (e : ℕ × Entry). f e.1)) (same x y r) in omega arith) a in omega arith
 
-  rise : (e : Entry) (x y : View Entry) → StripeEntered e x y → own_weighs f y ≡ own_weighs f x + f e
+  rise : (e : Entry) (x y : View Entry) → StripeEntered s e x y → own_weighs f y ≡ own_weighs f x + f e
   rise e x y k = let o : own_weighs f y ≡ weigh (λ (e : ℕ × Entry). f e.1) (own_entries x ++ (seat_of x, e) ∷ []) = ap (weigh (λ (e : ℕ × Entry). f e.1)) k.own in
       let a = weigh-append (λ (e : ℕ × Entry). f e.1) (own_entries x) ((seat_of x, e) ∷ []) in let b = weigh_one (λ (e : ℕ × Entry). f e.1) (seat_of x, e) in omega arith
 
   pub entered_weighs : (e : Entry) → EnteredAt s e v w → own_weight f w ≡ own_weight f v + f e
-  entered_weighs e a = weighs_at (StripeEntered e) (f e) (rise e) a
+  entered_weighs e a = weighs_at (StripeEntered s e) (f e) (rise e) a
 
   pub tried_weighs : (e : Entry) → TriedAt s e v w → own_weight f w ≡ own_weight f v + f e
-  tried_weighs e a = weighs_at (StripeTried e) (f e) (λ x y r. rise e x y r.0) a
+  tried_weighs e a = weighs_at (StripeTried s e) (f e) (λ x y r. rise e x y r.0) a
 
 own_as : (x y : View Entry) → y.seen ≡ x.seen → y.classes ≡ x.classes → own_entries y ≡ own_entries x
 own_as x y seen classes = λ i. entries_in (classes i) (seen i)
 
-spent_own : (x y : View Entry) → StripeSpent x y → own_entries y ≡ own_entries x
-spent_own x y k = own_as x y k.unmoved.seen k.unmoved.classes
+spent_own : (s : ℕ) (x y : View Entry) → StripeSpent s x y → own_entries y ≡ own_entries x
+spent_own s x y k = own_as x y k.unmoved.seen k.unmoved.classes
 
 pub refused_own : (x y : View Entry) → IsRefused x y → own_entries y ≡ own_entries x
 refused_own x y k = own_as x y (ap (λ (z : View Entry). z.seen) k.1) (ap (λ (z : View Entry). z.classes) k.1)
 
 module _ (f : Entry → ℕ) (s : ℕ) (v w : MgrView) where
   pub spent_weighs : SpentAt s v w → own_weight f w ≡ own_weight f v
-  spent_weighs = weighs_same f s v w StripeSpent spent_own
+  spent_weighs = weighs_same f s v w (StripeSpent s) (spent_own s)
 
   pub tried_spent_weighs : TriedSpentAt s v w → own_weight f w ≡ own_weight f v
-  tried_spent_weighs = weighs_same f s v w StripeTriedSpent (λ x y r. spent_own x y r.0)
+  tried_spent_weighs = weighs_same f s v w (StripeTriedSpent s) (λ x y r. spent_own s x y r.0)
 
   pub busy_weighs : (held : Held) → BusyAt s held v w → own_weight f w ≡ own_weight f v
   busy_weighs held b = weighs_same f s v w (λ x y. (held.count ≡ y.found / 2) × IsRefused x y) (λ x y r. refused_own x y r.1) b.1
@@ -74,7 +74,7 @@ module _ (s : ℕ) (R : View Entry → View Entry → Type 0) (v w : MgrView) (a
 
 -- the entry is the last of the pass's own in its stripe
 pub entered_own : (s : ℕ) (e : Entry) (v w : MgrView) → EnteredAt s e v w → (n : ℕ) × (own_in s w ≡ own_in s v ++ (n, e) ∷ [])
-entered_own s e v w a = (seat_of a.stripe.before, ap own_by (stripe_after s (StripeEntered e) v w a) ∙ (a.stripe.moved.own ∙ ap (λ (l : Log Entry). l ++ (seat_of a.stripe.before, e) ∷ []) (sym (ap own_by a.stripe.there))))
+entered_own s e v w a = (seat_of a.stripe.before, ap own_by (stripe_after s (StripeEntered s e) v w a) ∙ (a.stripe.moved.own ∙ ap (λ (l : Log Entry). l ++ (seat_of a.stripe.before, e) ∷ []) (sym (ap own_by a.stripe.there))))
 
 -- ---- splitting and joining
 

@@ -1,7 +1,6 @@
--- What the bitmap of free numbers stands for. `out` tells of each number whether it is out.
+-- Inner: what the bitmap of free numbers stands for. `out` tells of each number whether it is out.
 use Rattle.std.specs.Prelude.{◌≡◌, ℕ, ◌+◌, ◌*◌, ◌<◌, ◌==◌, ◌&&◌, ◌||◌, Bool, true, false, not, List, length, slice_index}
 use Rattle.std.specs.Int.{bit_at}
-use Rattle.reg_keys.specs.declared.limits.TheConstants.{DESCRIPTORS}
 use Rattle.event_mgr.specs.declared.free_numbers.FreeNumbers.{FreeNumbers}
 
 -- the number is out too
@@ -11,16 +10,6 @@ put_out n out m = (n == m) || out m
 -- the number isn't out any more
 abbrev pub put_in : ℕ → (ℕ → Bool) → ℕ → Bool
 put_in n out m = not (n == m) && out m
-
--- the least number that isn't out
-pub record IsLeastFree (out : ℕ → Bool) (n : ℕ) : Type 0 where
-  pub within : n < DESCRIPTORS
-  pub free : out n ≡ false
-  pub least : (m : ℕ) → m < n → out m ≡ true
-
--- all numbers are out
-abbrev pub AreAllOut : (ℕ → Bool) → Type 0
-AreAllOut out = (n : ℕ) → n < DESCRIPTORS → out n ≡ true
 
 -- a bit that is set says that its number is free, and a bit of the summary that its word isn't nought
 pub record IsBitmap (out : ℕ → Bool) (words : List ℕ) (summary : ℕ) : Type 0 where

@@ -1,4 +1,4 @@
--- What a call on a stripe says, whichever call it is: its reply is one to this call, and stands in the entry.
+-- Inner: what a call on a stripe says, whichever call it is: its reply is one to this call, and stands in the entry.
 use Rattle.std.specs.Prelude.{◌≡◌, ℕ, List}
 use Rattle.reg_keys.specs.declared.entry.Entry.{Entry}
 use Rattle.reg_keys.specs.declared.entry.Entry.TheVariants as Entries
@@ -27,7 +27,7 @@ module _ {T : Type 0} (tag : T → List (List ℕ)) (Made : Entry → Type 0) wh
   abbrev pub IsAnswered : StripeCall T → Reply T → Type 0
   IsAnswered (Call.Open fd) (Answer.Open r) = Made (Entries.Open fd (opened r)) × OpensFor fd r
   IsAnswered (Call.Report o ds) (Answer.Report r) = Made (Entries.Report o ds (reported r)) × NotesFor o r
-  IsAnswered (Call.Register o d m load) (Answer.Register r) = Made (Entries.Register o d m (kind_of tag load) (registered r)) × RegistersFor tag o load r
+  IsAnswered (Call.Register o d m load) (Answer.Register r) = Made (Entries.Register o d m (kind_of tag load) (registered r)) × RegistersFor o load r
   IsAnswered (Call.Withdraw key) (Answer.Withdraw r) = Made (Entries.Withdraw key (withdrawn tag r))
   IsAnswered (Call.Ask key) (Answer.Ask r) = Made (Entries.Ask key (asked r))
   IsAnswered (Call.Dispatch x) (Answer.Dispatch r) = Made (Entries.Dispatch x (dispatched tag r)) × DispatchesFor x r

@@ -5,4 +5,5 @@ pub mod Rows
 pub mod Stripes
 pub mod Manager
 pub mod Kinds
-pub mod Sums
+pub mod Level
+pub mod Weighing

@@ -1,6 +1,5 @@
--- What the calls of the manager say, over what its pass knows before and after.
-use Rattle.std.specs.Prelude.{◌≡◌, ℕ, ◌/◌, ◌^◌, ◌<◌, ◌⊎◌, List, [], map, length, slice_get, Option, Some, None}
-use Rattle.reg_keys.specs.declared.limits.TheConstants.{STRIPES, DESCRIPTORS}
+-- To be believed: what the calls of the manager say, over what its pass knows before and after.
+use Rattle.std.specs.Prelude.{◌≡◌, ℕ, ◌/◌, ◌^◌, ◌<◌, ◌⊎◌, List, [], ◌++◌, map, length, slice_get, Option, Some, None, false}
 use Rattle.reg_keys.specs.declared.opening.Opening.{Opening}
 use Rattle.reg_keys.specs.declared.event.EventName.{EventName}
 use Rattle.reg_keys.specs.declared.registration.Key.{Key}
@@ -12,6 +11,8 @@ use Rattle.reg_keys.specs.declared.entry.OpenOutcome.TheVariants as Opens
 use Rattle.reg_keys.specs.declared.entry.WithdrawOutcome.TheVariants as Withdraws
 use Rattle.reg_keys.specs.declared.entry.AskOutcome.TheVariants as Asks
 use Rattle.reg_keys.specs.declared.entry.CloseOutcome.TheVariants as Closes
+use Rattle.reg_keys.specs.OwnOpenings.{IsNamedFor}
+use Rattle.reg_keys.specs.Histories.{is_live}
 use Rattle.reg_keys.specs.Replies.{IsLegal}
 use Rattle.turn_cell.specs.declared.view.View.{View}
 use Rattle.turn_cell.specs.Weights.{weigh}
@@ -27,7 +28,8 @@ use Rattle.stripe_table.specs.declared.calls.RegisterReply.TheVariants as Regist
 use Rattle.stripe_table.specs.declared.calls.DispatchReply.{DispatchReply}
 use Rattle.stripe_table.specs.declared.calls.DispatchReply.TheVariants as Dispatch
 use Rattle.event_mgr.specs.Numbers.{numbers_past, IsNumbersPast}
-use Rattle.event_mgr.specs.Rows.{At, AreOf, AreFirst, AreSplit, AreJoined, HasShared, AreShared, views_of}
+use Rattle.level.specs.Leveling.{HasShared}
+use Rattle.event_mgr.specs.Rows.{At, AreOf, AreFirst, AreSplit, AreJoined, AreShared, views_of}
 use Rattle.event_mgr.specs.Stripes.{stripe_of, past_in, StripeEntered, StripeSpent, StripeTried, StripeTriedSpent, NumbersEntered, NumbersSpent, GivenBack}
 use Rattle.event_mgr.specs.declared.numbers.NumbersCall.TheVariants.{Draw}
 use Rattle.event_mgr.specs.declared.numbers.NumbersReply.TheVariants.{Drawn, AllOut}
@@ -63,7 +65,7 @@ mgr_view p = record { stripes = views_of p.stripes; numbers = view_of p.numbers 
 
 -- there are 32 stripes, and what was seen of each history is legal
 pub record IsLawful (v : MgrView) : Type 0 where
-  pub many : length v.stripes ≡ STRIPES
+  pub many : length v.stripes ≡ 32
   pub legal : (s : ℕ) (x : View Entry) → slice_get v.stripes s ≡ Some x → IsLegal s 1 (past_in x.seen)
   pub numbers : IsNumbersPast (numbers_past v.numbers.seen)
 
@@ -137,19 +139,19 @@ pub record OnlyAt (s : ℕ) (R : View Entry → View Entry → Type 0) (v w : Mg
 
 -- this stripe's history got the entry, and no other history got any
 abbrev pub EnteredAt : ℕ → Entry → MgrView → MgrView → Type 0
-EnteredAt s e v w = OnlyAt s (StripeEntered e) v w
+EnteredAt s e v w = OnlyAt s (StripeEntered s e) v w
 
 -- no history got an entry, since this stripe's cell has 2 ^ 62
 abbrev pub SpentAt : ℕ → MgrView → MgrView → Type 0
-SpentAt s v w = OnlyAt s StripeSpent v w
+SpentAt s v w = OnlyAt s (StripeSpent s) v w
 
 -- one `fetch_or` was made, this stripe's history got the entry, and no other history got any
 abbrev pub TriedAt : ℕ → Entry → MgrView → MgrView → Type 0
-TriedAt s e v w = OnlyAt s (StripeTried e) v w
+TriedAt s e v w = OnlyAt s (StripeTried s e) v w
 
 -- one `fetch_or` was made, and no history got an entry, since this stripe's cell has 2 ^ 62
 abbrev pub TriedSpentAt : ℕ → MgrView → MgrView → Type 0
-TriedSpentAt s v w = OnlyAt s StripeTriedSpent v w
+TriedSpentAt s v w = OnlyAt s (StripeTriedSpent s) v w
 
 -- the one `fetch_or` of the call found this stripe's turn held, and `count` is half the odd word, rounded down
 abbrev pub BusyAt : ℕ → Held → MgrView → MgrView → Type 0
@@ -157,14 +159,9 @@ BusyAt s held v w = (held.stripe ≡ s) × OnlyAt s (λ x y. (held.count ≡ y.f
 
 -- the opening is on a descriptor below 4,096, and its number is one of that descriptor's stripe, so that it has a token
 pub record IsWellFormed (o : Opening) : Type 0 where
-  pub descriptor : o.fd < DESCRIPTORS
+  pub descriptor : o.fd < 4096
   pub number : o.number < 2 ^ 57
   pub stripe : stripe_of o.number ≡ stripe_of o.fd
-
--- an event that a call names for an opening is that opening's
-abbrev pub IsNamedFor : Opening → Option EventName → Type 0
-IsNamedFor o None = Unit {0}
-IsNamedFor o (Some e) = e.opening ≡ o
 
 -- ---- the answers to calls on an opening or a key
 
@@ -173,69 +170,79 @@ abbrev pub NotesFor : Opening → ReportReply → Type 0
 NotesFor o (Report.Noted e) = IsNamedFor o e
 NotesFor o _ = Unit {0}
 
-module _ {T : Type 0} (tag : T → List (List ℕ)) where
-  -- a registration that is refused hands back a load with the tag of its own, and one that waits has a key of the opening's stripe
+module _ {T : Type 0} where
+  -- a registration that is refused hands the very load back, and one that waits has a key of the opening's stripe
   abbrev pub RegistersFor : Opening → Payload T → RegisterReply T → Type 0
-  RegistersFor o load (Register.Shut back) = kind_of tag back ≡ kind_of tag load
-  RegistersFor o load (Register.Crowded back) = kind_of tag back ≡ kind_of tag load
-  RegistersFor o load (Register.Spent back) = kind_of tag back ≡ kind_of tag load
+  RegistersFor o load (Register.Shut back) = back ≡ load
+  RegistersFor o load (Register.Crowded back) = back ≡ load
+  RegistersFor o load (Register.Spent back) = back ≡ load
   RegistersFor o load (Register.Waits key e) = (stripe_of key.number ≡ stripe_of o.fd) × IsNamedFor o e
 
-module _ {T : Type 0} where
   -- a dispatch that is refused hands its event back, and what it names next is its opening's
   abbrev pub DispatchesFor : EventName → DispatchReply T → Type 0
   DispatchesFor x (Dispatch.Spent back) = back ≡ x
   DispatchesFor x Dispatch.Stale = Unit {0}
   DispatchesFor x (Dispatch.Ran list e) = IsNamedFor x.opening e
 
--- what a call says whose answers are the stripe's replies: given what it is that an entry was made, and that the cell was found spent
-module _ (Made : Entry → Type 0) (Met : Type 0) where
-  -- of a report
-  abbrev pub Reports : Opening → Dirs → ReportReply → Type 0
-  Reports o ds r = (Made (Entries.Report o ds (reported r)) × NotesFor o r) ⊎ ((r ≡ Report.Spent) × Met)
+-- How a call on a stripe ended: what it did where its entry was made, and where the stripe's cell was found spent
+pub record CallEnds : Type 1 where
+  pub entered : Entry → Type 0
+  pub spent : Type 0
 
-  module _ {T : Type 0} (tag : T → List (List ℕ)) where
-    -- of a registration
-    abbrev pub Registers : Opening → Dir → Option ℕ → Payload T → RegisterReply T → Type 0
-    Registers o d m load r = (Made (Entries.Register o d m (kind_of tag load) (registered r)) × RegistersFor tag o load r) ⊎ ((r ≡ Register.Spent load) × Met)
+-- the ends of a call that waits for its stripe's turn, and of one that makes a single try
+abbrev pub waiting_at : ℕ → MgrView → MgrView → CallEnds
+waiting_at s v w = record { entered = λ e. EnteredAt s e v w; spent = SpentAt s v w }
 
-    -- of a dispatch
-    abbrev pub Dispatches : EventName → DispatchReply T → Type 0
-    Dispatches x r = (Made (Entries.Dispatch x (dispatched tag r)) × DispatchesFor x r) ⊎ ((r ≡ Dispatch.Spent x) × Met)
+abbrev pub trying_at : ℕ → MgrView → MgrView → CallEnds
+trying_at s v w = record { entered = λ e. TriedAt s e v w; spent = TriedSpentAt s v w }
+
+-- a report was entered with this reply, or the cell was spent
+abbrev pub Reports : CallEnds → Opening → Dirs → ReportReply → Type 0
+Reports ends o ds r = (ends.entered (Entries.Report o ds (reported r)) × NotesFor o r) ⊎ ((r ≡ Report.Spent) × ends.spent)
+
+module _ {T : Type 0} (tag : T → List (List ℕ)) where
+  -- the same of a registration
+  abbrev pub Registers : CallEnds → Opening → Dir → Option ℕ → Payload T → RegisterReply T → Type 0
+  Registers ends o d m load r =
+      (ends.entered (Entries.Register o d m (kind_of tag load) (registered r)) × RegistersFor o load r) ⊎ ((r ≡ Register.Spent load) × ends.spent)
+
+  -- and of a dispatch
+  abbrev pub Dispatches : CallEnds → EventName → DispatchReply T → Type 0
+  Dispatches ends x r = (ends.entered (Entries.Dispatch x (dispatched tag r)) × DispatchesFor x r) ⊎ ((r ≡ Dispatch.Spent x) × ends.spent)
 
 -- a report was entered in the opening's stripe, with this reply
 abbrev pub HasReported : Opening → Dirs → MgrView → ReportReply → MgrView → Type 0
-HasReported o ds v r w = Reports (λ e. EnteredAt (stripe_of o.fd) e v w) (SpentAt (stripe_of o.fd) v w) o ds r
+HasReported o ds v r w = Reports (waiting_at (stripe_of o.fd) v w) o ds r
 
 -- the same of one try
 abbrev pub HasTriedReport : Opening → Dirs → MgrView → TryReport → MgrView → Type 0
-HasTriedReport o ds v (TryReports.Noted e) w = Reports (λ e. TriedAt (stripe_of o.fd) e v w) (TriedSpentAt (stripe_of o.fd) v w) o ds (Report.Noted e)
-HasTriedReport o ds v TryReports.Stale w = Reports (λ e. TriedAt (stripe_of o.fd) e v w) (TriedSpentAt (stripe_of o.fd) v w) o ds Report.Stale
-HasTriedReport o ds v TryReports.Spent w = Reports (λ e. TriedAt (stripe_of o.fd) e v w) (TriedSpentAt (stripe_of o.fd) v w) o ds Report.Spent
+HasTriedReport o ds v (TryReports.Noted e) w = Reports (trying_at (stripe_of o.fd) v w) o ds (Report.Noted e)
+HasTriedReport o ds v TryReports.Stale w = Reports (trying_at (stripe_of o.fd) v w) o ds Report.Stale
+HasTriedReport o ds v TryReports.Spent w = Reports (trying_at (stripe_of o.fd) v w) o ds Report.Spent
 HasTriedReport o ds v (TryReports.Busy held) w = BusyAt (stripe_of o.fd) held v w
 
 module _ {T : Type 0} (tag : T → List (List ℕ)) where
   -- a registration was entered in the opening's stripe, with this reply
   abbrev pub HasRegistered : Opening → Dir → Option ℕ → Payload T → MgrView → RegisterReply T → MgrView → Type 0
-  HasRegistered o d m load v r w = Registers (λ e. EnteredAt (stripe_of o.fd) e v w) (SpentAt (stripe_of o.fd) v w) tag o d m load r
+  HasRegistered o d m load v r w = Registers tag (waiting_at (stripe_of o.fd) v w) o d m load r
 
   -- the same of one try, which hands the very load back where it finds the turn held
   abbrev pub HasTriedRegister : Opening → Dir → Option ℕ → Payload T → MgrView → TryRegister T → MgrView → Type 0
-  HasTriedRegister o d m load v (TryRegisters.Waits key e) w = Registers (λ e. TriedAt (stripe_of o.fd) e v w) (TriedSpentAt (stripe_of o.fd) v w) tag o d m load (Register.Waits key e)
-  HasTriedRegister o d m load v (TryRegisters.Shut back) w = Registers (λ e. TriedAt (stripe_of o.fd) e v w) (TriedSpentAt (stripe_of o.fd) v w) tag o d m load (Register.Shut back)
-  HasTriedRegister o d m load v (TryRegisters.Crowded back) w = Registers (λ e. TriedAt (stripe_of o.fd) e v w) (TriedSpentAt (stripe_of o.fd) v w) tag o d m load (Register.Crowded back)
-  HasTriedRegister o d m load v (TryRegisters.Spent back) w = Registers (λ e. TriedAt (stripe_of o.fd) e v w) (TriedSpentAt (stripe_of o.fd) v w) tag o d m load (Register.Spent back)
+  HasTriedRegister o d m load v (TryRegisters.Waits key e) w = Registers tag (trying_at (stripe_of o.fd) v w) o d m load (Register.Waits key e)
+  HasTriedRegister o d m load v (TryRegisters.Shut back) w = Registers tag (trying_at (stripe_of o.fd) v w) o d m load (Register.Shut back)
+  HasTriedRegister o d m load v (TryRegisters.Crowded back) w = Registers tag (trying_at (stripe_of o.fd) v w) o d m load (Register.Crowded back)
+  HasTriedRegister o d m load v (TryRegisters.Spent back) w = Registers tag (trying_at (stripe_of o.fd) v w) o d m load (Register.Spent back)
   HasTriedRegister o d m load v (TryRegisters.Busy held back) w = (back ≡ load) × BusyAt (stripe_of o.fd) held v w
 
   -- a dispatch was entered in the stripe of the event's opening, with this reply
   abbrev pub HasDispatched : EventName → MgrView → DispatchReply T → MgrView → Type 0
-  HasDispatched x v r w = Dispatches (λ e. EnteredAt (stripe_of x.opening.fd) e v w) (SpentAt (stripe_of x.opening.fd) v w) tag x r
+  HasDispatched x v r w = Dispatches tag (waiting_at (stripe_of x.opening.fd) v w) x r
 
   -- the same of one try, which hands the event back where it finds the turn held
   abbrev pub HasTriedDispatch : EventName → MgrView → TryDispatch T → MgrView → Type 0
-  HasTriedDispatch x v (TryDispatches.Ran list e) w = Dispatches (λ e. TriedAt (stripe_of x.opening.fd) e v w) (TriedSpentAt (stripe_of x.opening.fd) v w) tag x (Dispatch.Ran list e)
-  HasTriedDispatch x v TryDispatches.Stale w = Dispatches (λ e. TriedAt (stripe_of x.opening.fd) e v w) (TriedSpentAt (stripe_of x.opening.fd) v w) tag x Dispatch.Stale
-  HasTriedDispatch x v (TryDispatches.Spent back) w = Dispatches (λ e. TriedAt (stripe_of x.opening.fd) e v w) (TriedSpentAt (stripe_of x.opening.fd) v w) tag x (Dispatch.Spent back)
+  HasTriedDispatch x v (TryDispatches.Ran list e) w = Dispatches tag (trying_at (stripe_of x.opening.fd) v w) x (Dispatch.Ran list e)
+  HasTriedDispatch x v TryDispatches.Stale w = Dispatches tag (trying_at (stripe_of x.opening.fd) v w) x Dispatch.Stale
+  HasTriedDispatch x v (TryDispatches.Spent back) w = Dispatches tag (trying_at (stripe_of x.opening.fd) v w) x (Dispatch.Spent back)
   HasTriedDispatch x v (TryDispatches.Busy held back) w = (back ≡ x) × BusyAt (stripe_of x.opening.fd) held v w
 
   -- a withdrawal was entered in the key's stripe, with this reply
@@ -268,19 +275,24 @@ pub record DrewInVain (v w : MgrView) : Type 0 where
   pub fd : ℕ
   pub drawn : View NumbersEntry
   pub drew : Drew fd v.numbers drawn
-  pub refused : At (stripe_of fd) (λ x y. StripeEntered (Entries.Open fd Opens.Spent) x y ⊎ StripeSpent x y) v.stripes w.stripes
+  pub refused : At (stripe_of fd) (λ x y. StripeEntered (stripe_of fd) (Entries.Open fd Opens.Spent) x y ⊎ StripeSpent (stripe_of fd) x y) v.stripes w.stripes
   pub back : GivenBack fd drawn w.numbers
 
 -- a number was drawn and its descriptor opened in its stripe, or not
 abbrev pub HasOpened : MgrView → OpenOut → MgrView → Type 0
-HasOpened v (Open.Opened o) w = AtBoth (stripe_of o.fd) (StripeEntered (Entries.Open o.fd (Opens.Opened o))) (Drew o.fd) v w × IsWellFormed o
+HasOpened v (Open.Opened o) w = AtBoth (stripe_of o.fd) (StripeEntered (stripe_of o.fd) (Entries.Open o.fd (Opens.Opened o))) (Drew o.fd) v w × IsWellFormed o
 HasOpened v Open.Full w = NumbersEntered (record { call = Draw; reply = AllOut }) v.numbers w.numbers × (w.stripes ≡ v.stripes)
-HasOpened v (Open.Taken o) w = AtBoth (stripe_of o.fd) (StripeEntered (Entries.Open o.fd (Opens.Taken o))) (Drew o.fd) v w
+HasOpened v (Open.Taken o) w = AtBoth (stripe_of o.fd) (StripeEntered (stripe_of o.fd) (Entries.Open o.fd (Opens.Taken o))) (Drew o.fd) v w
 HasOpened v Open.Spent w = (NumbersSpent v.numbers w.numbers × (w.stripes ≡ v.stripes)) ⊎ DrewInVain v w
 
 module _ {T : Type 0} (tag : T → List (List ℕ)) where
   -- a close was entered in the opening's stripe, and its number given back where it was shut
   abbrev pub HasClosed : Opening → MgrView → CloseOut T → MgrView → Type 0
-  HasClosed o v (Close.Shut list) w = AtBoth (stripe_of o.fd) (StripeEntered (Entries.Close o (Closes.Shut (map (shut_key tag) list)))) (GivenBack o.fd) v w
+  HasClosed o v (Close.Shut list) w = AtBoth (stripe_of o.fd) (StripeEntered (stripe_of o.fd) (Entries.Close o (Closes.Shut (map (shut_key tag) list)))) (GivenBack o.fd) v w
   HasClosed o v Close.NotOpen w = EnteredAt (stripe_of o.fd) (Entries.Close o Closes.NotOpen) v w
   HasClosed o v Close.Spent w = SpentAt (stripe_of o.fd) v w
+
+  -- after a close the opening is live in nothing that any pass has seen of a history that goes on from it
+  abbrev pub IsClosedForGood : Opening → Type 0
+  IsClosedForGood o = (list : List (Key × Option T)) (v w u : MgrView) (later : List Entry) → HasClosed o v (Close.Shut list) w → IsLawful u
+      → past_in (seen_in (stripe_of o.fd) u) ≡ later ++ past_in (seen_in (stripe_of o.fd) w) → is_live (past_in (seen_in (stripe_of o.fd) u)) o ≡ false

@@ -1,8 +1,6 @@
--- Which numbers of descriptors are out after a history of the calls on them, and what each call is
--- answered. The definitions read the history as a past: the list of its entries, the latest first.
-use Rattle.std.specs.Prelude.{◌≡◌, ℕ, suc, zero, ◌==◌, Bool, not, if◌then◌else◌, List, [], ◌∷◌, map, filter, reverse, Option, Some, None}
+-- To be believed: which numbers of descriptors are out after a history of the calls on them, and what each call is answered. The definitions read the history as a past: the list of its entries, the latest first.
+use Rattle.std.specs.Prelude.{◌≡◌, ℕ, ◌<◌, suc, zero, ◌==◌, Bool, true, false, not, if◌then◌else◌, List, [], ◌∷◌, map, filter, reverse, Option, Some, None}
 use Rattle.std.specs.List.{list_any}
-use Rattle.reg_keys.specs.declared.limits.TheConstants.{DESCRIPTORS}
 use Rattle.event_mgr.specs.declared.numbers.NumbersCall.{NumbersCall}
 use Rattle.event_mgr.specs.declared.numbers.NumbersCall.TheVariants.{Draw, GiveBack}
 use Rattle.event_mgr.specs.declared.numbers.NumbersReply.{NumbersReply}
@@ -45,10 +43,20 @@ drawn None = AllOut
 
 -- the reply that a call must have after the past
 abbrev pub number_reply : List NumbersEntry → NumbersCall → NumbersReply
-number_reply past Draw = drawn (least_missing DESCRIPTORS (numbers_out past))
+number_reply past Draw = drawn (least_missing 4096 (numbers_out past))
 number_reply past (GiveBack n) = if is_among (numbers_out past) n then Back else NotOut
 
 -- each reply of the past is the one that its call must have
 abbrev pub IsNumbersPast : List NumbersEntry → Type 0
 IsNumbersPast [] = Unit {0}
 IsNumbersPast (e ∷ past) = (e.reply ≡ number_reply past e.call) × IsNumbersPast past
+
+-- the least number that isn't out
+pub record IsLeastFree (out : ℕ → Bool) (n : ℕ) : Type 0 where
+  pub within : n < 4096
+  pub free : out n ≡ false
+  pub least : (m : ℕ) → m < n → out m ≡ true
+
+-- all numbers are out
+abbrev pub AreAllOut : (ℕ → Bool) → Type 0
+AreAllOut out = (n : ℕ) → n < 4096 → out n ≡ true

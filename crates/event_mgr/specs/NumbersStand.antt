@@ -1,4 +1,4 @@
--- What the part of the numbers stands for.
+-- Inner: what the part of the numbers stands for.
 use Rattle.std.specs.Prelude.{◌<◌, List, All}
 use Rattle.event_mgr.specs.declared.numbers.NumbersEntry.{NumbersEntry}
 use Rattle.event_mgr.specs.declared.numbers.Numbers.{Numbers}

@@ -1,4 +1,5 @@
-// The manager's calls that wait for their stripe's turn. Each is one call on one stripe.
+// The manager's calls that wait for their stripe's turn. Each is one call on one stripe; `open_fd` and `close_fd`
+// also draw a number or give one back.
 ghost use Rattle.std.specs.Prelude.{◌<◌};
 ghost use Rattle.reg_keys.specs.declared.limits.TheConstants.{STRIPES};
 ghost use Rattle.stripe_table.specs.Calls.{IsOfStripe};
@@ -15,18 +16,19 @@ use crate::manager::EventManager;
 use crate::numbers::{Numbers, NumbersCall, NumbersEntry, NumbersReply};
 use crate::pass::MgrPass;
 use crate::stripes::{stripe_of_descriptor, stripe_of_key};
-use reg_keys::{Dir, Dirs, Event, Key, Opening};
+use reg_keys::{Dir, Dirs, Event, Key, Opening, legal_names_own_openings};
 use std::sync::Wait;
 use stripe_table::{
     AskReply, CloseReply, DispatchReply, Load, OpenReply, Payload, RegisterReply, ReportReply,
-    Stripe, StripeCall, WithdrawReply, a_legal_reply_is_in_kind,
+    Stripe, StripeCall, WithdrawReply,
 };
 use turn_cell::{Pass, Stepped};
 
 impl<T: Load> EventManager<T> {
-    /// Opens the least descriptor that isn't open.
+    /// Opens the lowest free descriptor.
     ///
-    /// A number is drawn and its descriptor opened in its stripe. Where the stripe is spent the number is given back, and where the descriptor has an opening of another's making it stays out.
+    /// A number is drawn and its descriptor opened in its stripe. Where the stripe is spent the number is
+    /// given back, and where the descriptor has an opening of another's making it stays out.
     pub fn open_fd<R: Wait>(&self, rt: &R, pass: &mut MgrPass<T>) -> OpenOut
         requires { IsOfMgr self.now pass.old }
         ensures own { IsOfMgr self.now pass.new }
@@ -58,43 +60,49 @@ impl<T: Load> EventManager<T> {
         }
     }
 
-    /// Says that an opening was reported ready for these directions.
+    /// Records that a poller reported this opening ready for these directions.
     pub fn report<R: Wait>(
         &self,
         rt: &R,
         pass: &mut MgrPass<T>,
-        o: Opening,
+        opening: Opening,
         dirs: Dirs,
     ) -> ReportOut
         requires { IsOfMgr self.now pass.old }
         ensures own { IsOfMgr self.now pass.new }
-        ensures step { HasReported o dirs (mgr_view pass.old) result (mgr_view pass.new) }
+        ensures step { HasReported opening dirs (mgr_view pass.old) result (mgr_view pass.new) }
     {
-        let stripe = stripe_of_descriptor(o.fd);
-        match self.ask_stripe(rt, pass, stripe, StripeCall::Report(o, dirs)) {
+        let stripe = stripe_of_descriptor(opening.fd);
+        match self.ask_stripe(rt, pass, stripe, StripeCall::Report(opening, dirs)) {
             Stepped::Done(reply) => reported(reply),
             Stepped::Spent(_) => ReportReply::Spent,
         }
     }
 
-    /// Registers a job or a flag for one direction of an opening. A mark tells which report the caller has used up.
+    /// Registers a job or a flag for one direction of an opening.
+    ///
+    /// `mark` is the mark of that direction which the caller saw when it found nothing more to do: the
+    /// opening's own number at first, later what `Fired::marks` gave. So the way of a job is: when it
+    /// fires, read or write until there is nothing more to do, then register again with the mark that it
+    /// was given. A report that came since has another mark, and the registration is due at once. Without
+    /// a mark it is due wherever the direction counts as ready.
     ///
     /// A refusal hands the load back.
     pub fn register<R: Wait>(
         &self,
         rt: &R,
         pass: &mut MgrPass<T>,
-        o: Opening,
+        opening: Opening,
         dir: Dir,
         mark: Option<u64>,
         load: Payload<T>,
     ) -> RegisterOut<T>
         requires { IsOfMgr self.now pass.old }
         ensures own { IsOfMgr self.now pass.new }
-        ensures step { HasRegistered T.tag o dir mark load (mgr_view pass.old) result (mgr_view pass.new) }
+        ensures step { HasRegistered T.tag opening dir mark load (mgr_view pass.old) result (mgr_view pass.new) }
     {
-        let stripe = stripe_of_descriptor(o.fd);
-        let call = StripeCall::Register(o, dir, mark, load);
+        let stripe = stripe_of_descriptor(opening.fd);
+        let call = StripeCall::Register(opening, dir, mark, load);
         match self.ask_stripe(rt, pass, stripe, call) {
             Stepped::Done(reply) => registered(reply),
             Stepped::Spent(back) => RegisterReply::Spent(load_of(back)),
@@ -117,7 +125,7 @@ impl<T: Load> EventManager<T> {
         }
     }
 
-    /// Asks how a flag came out. It is forgotten once it is told.
+    /// Asks how a flag came out. Once it is told that the flag ran or was closed, the flag is forgotten.
     pub fn ask<R: Wait>(&self, rt: &R, pass: &mut MgrPass<T>, key: Key) -> AskOut
         requires { IsOfMgr self.now pass.old }
         ensures own { IsOfMgr self.now pass.new }
@@ -135,7 +143,7 @@ impl<T: Load> EventManager<T> {
         }
     }
 
-    /// Runs what an event is for: takes its registrations, whose jobs the caller is to run.
+    /// Takes the registrations that an event fires; the caller runs their jobs.
     ///
     /// A refusal for want of numbers or entries hands the event back.
     pub fn dispatch<R: Wait>(&self, rt: &R, pass: &mut MgrPass<T>, event: Event) -> DispatchOut<T>
@@ -150,17 +158,17 @@ impl<T: Load> EventManager<T> {
         }
     }
 
-    /// Closes an opening, gives what waited, and gives the number of its descriptor back.
-    pub fn close_fd<R: Wait>(&self, rt: &R, pass: &mut MgrPass<T>, o: Opening) -> CloseOut<T>
+    /// Closes an opening, gives what waited, and gives the number of its descriptor back, in this order.
+    pub fn close_fd<R: Wait>(&self, rt: &R, pass: &mut MgrPass<T>, opening: Opening) -> CloseOut<T>
         requires { IsOfMgr self.now pass.old }
         ensures own { IsOfMgr self.now pass.new }
-        ensures step { HasClosed T.tag o (mgr_view pass.old) result (mgr_view pass.new) }
+        ensures step { HasClosed T.tag opening (mgr_view pass.old) result (mgr_view pass.new) }
     {
-        let stripe = stripe_of_descriptor(o.fd);
-        match self.ask_stripe(rt, pass, stripe, StripeCall::Close(o)) {
+        let stripe = stripe_of_descriptor(opening.fd);
+        match self.ask_stripe(rt, pass, stripe, StripeCall::Close(opening)) {
             Stepped::Done(reply) => match closed(reply) {
                 CloseReply::Shut(list) => {
-                    self.give_back(rt, &mut pass.numbers, o.fd);
+                    self.give_back(rt, &mut pass.numbers, opening.fd);
                     CloseOut::Shut(list)
                 }
                 CloseReply::NotOpen => CloseOut::NotOpen,
@@ -169,7 +177,7 @@ impl<T: Load> EventManager<T> {
         }
     }
 
-    // Makes a call on a stripe, and waits for its turn.
+    /// Makes a call on a stripe, and waits for its turn.
     fn ask_stripe<R: Wait>(
         &self,
         rt: &R,
@@ -183,11 +191,12 @@ impl<T: Load> EventManager<T> {
         ensures own { IsOfMgr self.now pass.new }
         ensures step { HasCalled T.tag stripe call (mgr_view pass.old) result (mgr_view pass.new) }
     {
-        a_legal_reply_is_in_kind();
+        // A law of legal histories: it does nothing when it runs.
+        legal_names_own_openings();
         self.stripes.call(rt, &mut pass.stripes, stripe, call)
     }
 
-    // Gives a number back. If the cell of the numbers is spent, it stays out.
+    /// Gives a number back. If the cell of the numbers is spent, it stays out.
     fn give_back<R: Wait>(&self, rt: &R, pass: &mut Pass<Numbers, NumbersEntry>, fd: u16)
         requires { IsOf self.now.numbers pass.old }
         ensures own { IsOf self.now.numbers pass.new }

@@ -1,4 +1,5 @@
-// A row of 32 turn cells, one for each stripe, and a pass for each of them. A call is made on one cell, and makes its steps on that cell's word alone: so calls on two stripes never meet.
+// A row of 32 turn cells, one for each stripe, and a pass for each of them. A call is made on one cell, and makes its
+// steps on that cell's word alone: so calls on two stripes never meet.
 ghost use Rattle.std.specs.Prelude.{◌≡◌, ◌<◌, IfOk, IfErr};
 
 use crossbeam_utils::CachePadded;
@@ -7,7 +8,11 @@ use std::alloc::{AllocError, Global};
 use std::sync::Wait;
 use turn_cell::{Part, Pass, Stepped, Tried, TurnCell};
 
-/// A turn cell for each stripe. Each lies in a line of the processor's cache of its own, of which nothing is claimed.
+/// A turn cell for each stripe.
+///
+/// The padding keeps the handles of the cells apart: each is two pointers and some numbers that no call writes. What
+/// calls write, a cell's word and its slot, lies behind those pointers, and is kept apart from other cells' by the
+/// cell itself. Nothing is claimed of the processor's cache.
 #[derive(Drop)]
 pub struct Cells<P: Part> {
     cells: Vec<CachePadded<TurnCell<P>>>,
@@ -22,7 +27,8 @@ pub struct CellsPass<P, E> {
 impl<P: Part> Cells<P> {
     ghost use Rattle.event_mgr.specs.Rows.{name_at, views_of, AreNewParts, AreOf, AreFirst, AreSplit, AreJoined, AreShared, TriesAt, StepsAt};
 
-    /// A row of cells round 32 parts that stand for no calls, and its first pass, which has all seats and has seen nothing. The part at each place has the name of that stripe, as `Stripe::new` gives it.
+    /// A row of cells round 32 parts that stand for no calls, and its first pass, which has all seats and
+    /// has seen nothing. The part at each place has the name of that stripe, as `Stripe::new` gives it.
     ///
     /// Where there is no memory, the parts are dropped.
     pub fn new(
@@ -43,13 +49,14 @@ impl<P: Part> Cells<P> {
         Ok((Cells { cells }, CellsPass { passes }))
     }
 
-    /// Makes a call on one stripe's cell where nobody has its turn. It makes one `fetch_or`, on that cell's word, and never tries again.
+    /// Makes a call on one stripe's cell where nobody has its turn. It makes one `fetch_or`, on that cell's
+    /// word, and never tries again.
     pub fn try_call(&self, pass: &mut CellsPass<P, P::Entry>, stripe: u8, call: P::Call) -> Tried<P>
         requires own { AreOf self.now pass.old }
         requires stripe { stripe < STRIPES }
         requires may { P.may (name_at stripe) call }
         ensures own { AreOf self.now pass.new }
-        ensures step { TriesAt P.stands P.name P.entry stripe call (views_of pass.old) result (views_of pass.new) }
+        ensures step { TriesAt P.stands P.name P.entry P.answers stripe call (views_of pass.old) result (views_of pass.new) }
     {
         let mine = &mut pass.passes[stripe as usize];
         self.cells[stripe as usize].try_step(mine, call)
@@ -67,7 +74,7 @@ impl<P: Part> Cells<P> {
         requires stripe { stripe < STRIPES }
         requires may { P.may (name_at stripe) call }
         ensures own { AreOf self.now pass.new }
-        ensures step { StepsAt P.stands P.name P.entry stripe call (views_of pass.old) result (views_of pass.new) }
+        ensures step { StepsAt P.stands P.name P.entry P.answers stripe call (views_of pass.old) result (views_of pass.new) }
     {
         let mine = &mut pass.passes[stripe as usize];
         self.cells[stripe as usize].step(rt, mine, call)
@@ -98,7 +105,8 @@ impl<P: Part> Cells<P> {
         Ok(CellsPass { passes })
     }
 
-    /// Tells one pass what another has seen of each cell: a pass is split off the other and joined into the one. It takes no memory, waits for no turn, and makes no call.
+    /// Tells `to` what `from` has seen of each cell: a pass is split off the one and joined into the other.
+    /// It takes no memory, waits for no turn, and makes no call.
     pub fn share(&self, from: &mut CellsPass<P, P::Entry>, to: &mut CellsPass<P, P::Entry>)
         requires from { AreOf self.now from.old }
         requires to { AreOf self.now to.old }

@@ -23,7 +23,8 @@ pub struct FreeNumbers {
 }
 
 impl FreeNumbers {
-    ghost use Rattle.event_mgr.specs.FreeNumbers.{Shows, put_out, put_in, IsLeastFree, AreAllOut};
+    ghost use Rattle.event_mgr.specs.FreeNumbers.{Shows, put_out, put_in};
+    ghost use Rattle.event_mgr.specs.Numbers.{IsLeastFree, AreAllOut};
 
     /// All numbers are free.
     pub fn all(alloc: Global) -> Result<FreeNumbers, AllocError>

@@ -1,4 +1,5 @@
-// The seven kinds of reply stand behind one type. A call gets a reply of its own kind, so each of these takes a reply out of that type, and no other kind can come.
+// The seven kinds of reply stand behind one type. A call gets a reply of its own kind, so each of these takes a reply
+// out of that type, and no other kind can come.
 ghost use Rattle.std.specs.Prelude.{◌≡◌};
 ghost use Rattle.stripe_table.specs.declared.calls.Reply.TheVariants as Answer;
 ghost use Rattle.stripe_table.specs.declared.calls.StripeCall.TheVariants as Call;
@@ -11,7 +12,7 @@ use stripe_table::{
 };
 
 /// The reply to an `Open`.
-pub fn opened<T: Drop>(reply: Reply<T>) -> OpenReply
+pub(crate) fn opened<T: Drop>(reply: Reply<T>) -> OpenReply
     requires { IsOfKind Answer.Open reply }
     ensures { reply ≡ Answer.Open result }
 {
@@ -22,7 +23,7 @@ pub fn opened<T: Drop>(reply: Reply<T>) -> OpenReply
 }
 
 /// The reply to a `Report`.
-pub fn reported<T: Drop>(reply: Reply<T>) -> ReportReply
+pub(crate) fn reported<T: Drop>(reply: Reply<T>) -> ReportReply
     requires { IsOfKind Answer.Report reply }
     ensures { reply ≡ Answer.Report result }
 {
@@ -33,7 +34,7 @@ pub fn reported<T: Drop>(reply: Reply<T>) -> ReportReply
 }
 
 /// The reply to a `Register`.
-pub fn registered<T: Drop>(reply: Reply<T>) -> RegisterReply<T>
+pub(crate) fn registered<T: Drop>(reply: Reply<T>) -> RegisterReply<T>
     requires { IsOfKind Answer.Register reply }
     ensures { reply ≡ Answer.Register result }
 {
@@ -44,7 +45,7 @@ pub fn registered<T: Drop>(reply: Reply<T>) -> RegisterReply<T>
 }
 
 /// The reply to a `Withdraw`.
-pub fn withdrawn<T: Drop>(reply: Reply<T>) -> WithdrawReply<T>
+pub(crate) fn withdrawn<T: Drop>(reply: Reply<T>) -> WithdrawReply<T>
     requires { IsOfKind Answer.Withdraw reply }
     ensures { reply ≡ Answer.Withdraw result }
 {
@@ -55,7 +56,7 @@ pub fn withdrawn<T: Drop>(reply: Reply<T>) -> WithdrawReply<T>
 }
 
 /// The reply to an `Ask`.
-pub fn asked<T: Drop>(reply: Reply<T>) -> AskReply
+pub(crate) fn asked<T: Drop>(reply: Reply<T>) -> AskReply
     requires { IsOfKind Answer.Ask reply }
     ensures { reply ≡ Answer.Ask result }
 {
@@ -66,7 +67,7 @@ pub fn asked<T: Drop>(reply: Reply<T>) -> AskReply
 }
 
 /// The reply to a `Dispatch`.
-pub fn dispatched<T: Drop>(reply: Reply<T>) -> DispatchReply<T>
+pub(crate) fn dispatched<T: Drop>(reply: Reply<T>) -> DispatchReply<T>
     requires { IsOfKind Answer.Dispatch reply }
     ensures { reply ≡ Answer.Dispatch result }
 {
@@ -77,7 +78,7 @@ pub fn dispatched<T: Drop>(reply: Reply<T>) -> DispatchReply<T>
 }
 
 /// The reply to a `Close`.
-pub fn closed<T: Drop>(reply: Reply<T>) -> CloseReply<T>
+pub(crate) fn closed<T: Drop>(reply: Reply<T>) -> CloseReply<T>
     requires { IsOfKind Answer.Close reply }
     ensures { reply ≡ Answer.Close result }
 {
@@ -88,7 +89,7 @@ pub fn closed<T: Drop>(reply: Reply<T>) -> CloseReply<T>
 }
 
 /// The load of a `Register` that is handed back.
-pub fn load_of<T: Drop>(call: StripeCall<T>) -> Payload<T>
+pub(crate) fn load_of<T: Drop>(call: StripeCall<T>) -> Payload<T>
     requires { (o : _) × (d : _) × (m : _) × (load : _) × (call ≡ Call.Register o d m load) }
     ensures { (o : _) (d : _) (m : _) (load : _) → call ≡ Call.Register o d m load → result ≡ load }
 {
@@ -99,7 +100,7 @@ pub fn load_of<T: Drop>(call: StripeCall<T>) -> Payload<T>
 }
 
 /// The event of a `Dispatch` that is handed back.
-pub fn event_of<T: Drop>(call: StripeCall<T>) -> Event
+pub(crate) fn event_of<T: Drop>(call: StripeCall<T>) -> Event
     requires { (x : _) × (call ≡ Call.Dispatch x) }
     ensures { call ≡ Call.Dispatch result }
 {

@@ -1,4 +1,11 @@
-// The event manager: 32 stripes of the table of callbacks, each behind a turn of its own, and the numbers of descriptors behind one more. This file has what is stored, its making, and what is done with passes.
+// The event manager: 32 stripes of the table of callbacks, each behind a turn of its own, and the numbers of
+// descriptors behind one more. This file has what is stored, its making, and what is done with passes.
+//
+// What meets what: a call takes the turn of its own stripe and no other, so two calls meet only where they are on
+// one stripe. Opening draws a number first and then opens its descriptor; closing closes first and gives the number
+// back after that. The order is so since the two histories know nothing of one another: a number that was given
+// back before the close could be drawn, and its descriptor found taken, by a thread in between. No clause says
+// that a number is free exactly while its descriptor has no opening: an opening can be closed by whoever knows it.
 ghost use Rattle.std.specs.Prelude.{◌≡◌, ◌<◌, IfOk, IfErr};
 ghost use Rattle.event_mgr.specs.Manager.{IsOfMgr, IsFirst, IsMgrSplit, IsMgrJoined, IsMgrShared, mgr_view};
 
@@ -18,7 +25,8 @@ pub struct EventManager<T: Load> {
 }
 
 impl<T: Load> EventManager<T> {
-    /// A manager with no descriptor open, and its first pass. All the memory that its calls ever need is taken here.
+    /// A manager with no descriptor open, and its first pass. All the memory that its calls ever need is
+    /// taken here.
     pub fn new(alloc: Global) -> Result<(EventManager<T>, MgrPass<T>), AllocError>
         ensures own { IfOk result (λ m. IsOfMgr m.0 m.1) }
         ensures view { IfOk result (λ m. IsFirst (mgr_view m.1)) }
@@ -52,8 +60,9 @@ impl<T: Load> EventManager<T> {
         Ok(MgrPass { stripes, numbers })
     }
 
-    /// Tells one pass what another has seen, of each of the 33 histories. It takes no memory and waits for no turn, and neither pass's own entries change.
-    pub fn share(&self, from: &mut MgrPass<T>, to: &mut MgrPass<T>)
+    /// Tells one pass what another has seen, of each of the 33 histories. It takes no memory and waits for
+    /// no turn, and neither pass's own entries change.
+    pub(crate) fn share(&self, from: &mut MgrPass<T>, to: &mut MgrPass<T>)
         requires from { IsOfMgr self.now from.old }
         requires to { IsOfMgr self.now to.old }
         ensures from { IsOfMgr self.now from.new }

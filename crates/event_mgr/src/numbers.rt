@@ -94,6 +94,9 @@ impl Part for Numbers {
 
     ghost entry = { λ call reply. record { call = call; reply = reply } };
 
+    // The entry tells all of a reply.
+    ghost answers = { λ _ _. Unit {0} };
+
     fn apply(&mut self, call: NumbersCall) -> NumbersReply {
         match call {
             NumbersCall::Draw => self.draw(),

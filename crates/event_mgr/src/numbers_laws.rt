@@ -1,6 +1,6 @@
 // What the definitions of the numbers say, in the subject's own words.
 ghost use Rattle.std.specs.Prelude.{◌≡◌, ℕ, ◌<◌, List, ◌∷◌, true, false};
-ghost use Rattle.event_mgr.specs.FreeNumbers.{IsLeastFree, AreAllOut};
+ghost use Rattle.event_mgr.specs.Numbers.{IsLeastFree, AreAllOut};
 ghost use Rattle.event_mgr.specs.Numbers.{is_among, numbers_out, number_reply, IsNumbersPast};
 ghost use Rattle.event_mgr.specs.declared.numbers.NumbersCall.TheVariants.{Draw, GiveBack};
 ghost use Rattle.event_mgr.specs.declared.numbers.NumbersReply.TheVariants.{Drawn, AllOut, Back, NotOut};

@@ -7,7 +7,8 @@ use turn_cell::Pass;
 
 /// A pass of each of the 32 stripes' cells, and one of the cell of the numbers.
 ///
-/// It is of one manager, and belongs to whoever holds it: dropping it leaves its seats to nobody.
+/// It is of one manager, and belongs to whoever holds it. Join it into another before you drop it, or
+/// its entries are nobody's: they stay in the histories, but no sum over passes counts them any more.
 #[derive(Drop)]
 pub struct MgrPass<T> {
     pub(crate) stripes: CellsPass<Stripe<T>, Entry>,

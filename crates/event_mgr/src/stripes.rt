@@ -10,7 +10,7 @@ use stripe_table::{Load, Stripe};
 use turn_cell::Part;
 
 /// The stripe of a descriptor.
-pub fn stripe_of_descriptor(fd: u16) -> u8
+pub(crate) fn stripe_of_descriptor(fd: u16) -> u8
     ensures is { result ≡ stripe_of fd }
     ensures within { result < STRIPES }
 {
@@ -18,7 +18,7 @@ pub fn stripe_of_descriptor(fd: u16) -> u8
 }
 
 /// The stripe that drew a key.
-pub fn stripe_of_key(key: Key) -> u8
+pub(crate) fn stripe_of_key(key: Key) -> u8
     ensures is { result ≡ stripe_of key.number }
     ensures within { result < STRIPES }
 {
@@ -26,7 +26,7 @@ pub fn stripe_of_key(key: Key) -> u8
 }
 
 /// A stripe for each place, with no openings.
-pub fn all_stripes<T: Load>(alloc: Global) -> Result<Vec<Stripe<T>>, AllocError>
+pub(crate) fn all_stripes<T: Load>(alloc: Global) -> Result<Vec<Stripe<T>>, AllocError>
     ensures { IfOk result (λ v. AreNewParts ⟦<Stripe<T> as Part>⟧.stands ⟦<Stripe<T> as Part>⟧.name v.items) }
 {
     let mut parts = Vec::with_capacity(alloc, STRIPES as usize)?;

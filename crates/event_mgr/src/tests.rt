@@ -1,9 +1,12 @@
 // Rows of cells on two threads, and the manager's calls on one.
-ghost use Rattle.std.specs.Prelude.{◌∷◌, [], IfOk};
+ghost use Rattle.std.specs.Prelude.{◌∷◌, [], IfOk, All};
 ghost use Rattle.event_mgr.specs.Rows.{AreOf, AreNewParts};
-ghost use Rattle.event_mgr.specs.Manager.{IsOfMgr};
+ghost use Rattle.event_mgr.specs.Manager.{IsOfMgr, IsFirst, mgr_view};
+ghost use Rattle.event_mgr.specs.Level.{mgr_meaning};
+ghost use Rattle.level.specs.Meanings.{HoldAllSeats};
 
 use super::*;
+use level::{bring_level, split_passes_hold_all_seats};
 use reg_keys::{Dir, Dirs, Opening, STRIPES};
 use std::alloc::{AllocError, Global};
 use std::sync::atomic::{AtomicBool, Ordering};
@@ -44,6 +47,8 @@ impl Part for Room {
     ghost may = { λ n call. Unit {0} };
 
     ghost entry = { λ call reply. reply };
+
+    ghost answers = { λ call reply. Unit {0} };
 
     fn apply(&mut self, _call: ()) -> bool {
         match &self.door {
@@ -354,5 +359,44 @@ fn two_threads_open_no_descriptor_twice(rt: HostRuntime) -> Result<(), Fail> {
     assert_eq!(rt; open_in_two(&rt, &mgr, one, other), (true, true));
     let next = opening(mgr.open_fd(&rt, &mut pass))?;
     assert_eq!(rt; next.fd, 2 * EACH);
+    Ok(())
+}
+
+/// The first pass and two that are split off it.
+fn three_passes(
+    alloc: Global,
+    mgr: &EventManager<Job>,
+    first: MgrPass<Job>,
+) -> Result<Vec<MgrPass<Job>>, AllocError>
+    requires own { IsOfMgr mgr.now first }
+    requires first { IsFirst (mgr_view first) }
+    ensures own { IfOk result (λ v. All (λ p. IsOfMgr mgr.now p) v.items) }
+    ensures seats { IfOk result (λ v. HoldAllSeats mgr_meaning v.items) }
+{
+    split_passes_hold_all_seats::<MgrPass<Job>>();
+    manager_passes_are_split_cell_by_cell();
+    let mut passes = Vec::with_capacity(alloc, 3)?;
+    passes.push_reserved(first);
+    for _ in 1..3 {
+        let first = &mut passes[0];
+        let other = mgr.split(alloc, first)?;
+        passes.push_reserved(other);
+    }
+    Ok(passes)
+}
+
+#[test]
+fn passes_that_were_brought_level_go_on(rt: HostRuntime) -> Result<(), Fail> {
+    let (mgr, first) = EventManager::<Job>::new(rt.alloc())?;
+    let mut passes = three_passes(rt.alloc(), &mgr, first)?;
+    bring_level(&mgr, passes.as_mut_slice());
+    assert_eq!(rt; passes.len(), 3);
+    for fd in 0..3u16 {
+        let Some(pass) = passes.get_mut(fd as usize) else {
+            return Err(Fail::from("a pass too few"));
+        };
+        let o = opening(mgr.open_fd(&rt, pass))?;
+        assert_eq!(rt; o.fd, fd);
+    }
     Ok(())
 }

@@ -10,22 +10,21 @@ use crate::kinds::{dispatched, event_of, load_of, registered, reported};
 use crate::manager::EventManager;
 use crate::pass::MgrPass;
 use crate::stripes::stripe_of_descriptor;
-use reg_keys::{Dir, Dirs, Event, Opening};
+use reg_keys::{Dir, Dirs, Event, Opening, legal_names_own_openings};
 use stripe_table::{
     DispatchReply, Load, Payload, RegisterReply, ReportReply, Stripe, StripeCall,
-    a_legal_reply_is_in_kind,
 };
 use turn_cell::Tried;
 
 impl<T: Load> EventManager<T> {
-    /// Says that an opening was reported ready, where nobody has its stripe's turn.
-    pub fn try_report(&self, pass: &mut MgrPass<T>, o: Opening, dirs: Dirs) -> TryReport
+    /// Records that a poller reported this opening ready, where nobody has its stripe's turn.
+    pub fn try_report(&self, pass: &mut MgrPass<T>, opening: Opening, dirs: Dirs) -> TryReport
         requires { IsOfMgr self.now pass.old }
         ensures own { IsOfMgr self.now pass.new }
-        ensures step { HasTriedReport o dirs (mgr_view pass.old) result (mgr_view pass.new) }
+        ensures step { HasTriedReport opening dirs (mgr_view pass.old) result (mgr_view pass.new) }
     {
-        let stripe = stripe_of_descriptor(o.fd);
-        match self.try_stripe(pass, stripe, StripeCall::Report(o, dirs)) {
+        let stripe = stripe_of_descriptor(opening.fd);
+        match self.try_stripe(pass, stripe, StripeCall::Report(opening, dirs)) {
             Tried::Done(reply) => match reported(reply) {
                 ReportReply::Noted(event) => TryReport::Noted(event),
                 ReportReply::Stale => TryReport::Stale,
@@ -40,17 +39,17 @@ impl<T: Load> EventManager<T> {
     pub fn try_register(
         &self,
         pass: &mut MgrPass<T>,
-        o: Opening,
+        opening: Opening,
         dir: Dir,
         mark: Option<u64>,
         load: Payload<T>,
     ) -> TryRegister<T>
         requires { IsOfMgr self.now pass.old }
         ensures own { IsOfMgr self.now pass.new }
-        ensures step { HasTriedRegister T.tag o dir mark load (mgr_view pass.old) result (mgr_view pass.new) }
+        ensures step { HasTriedRegister T.tag opening dir mark load (mgr_view pass.old) result (mgr_view pass.new) }
     {
-        let stripe = stripe_of_descriptor(o.fd);
-        let call = StripeCall::Register(o, dir, mark, load);
+        let stripe = stripe_of_descriptor(opening.fd);
+        let call = StripeCall::Register(opening, dir, mark, load);
         match self.try_stripe(pass, stripe, call) {
             Tried::Done(reply) => match registered(reply) {
                 RegisterReply::Waits(key, event) => TryRegister::Waits(key, event),
@@ -65,7 +64,8 @@ impl<T: Load> EventManager<T> {
         }
     }
 
-    /// Runs what an event is for, where nobody has the stripe's turn. `Busy` and `Spent` hand the event back.
+    /// Takes the registrations that an event fires, where nobody has the stripe's turn. `Busy` and `Spent`
+    /// hand the event back.
     pub fn try_dispatch(&self, pass: &mut MgrPass<T>, event: Event) -> TryDispatch<T>
         requires { IsOfMgr self.now pass.old }
         ensures own { IsOfMgr self.now pass.new }
@@ -85,7 +85,7 @@ impl<T: Load> EventManager<T> {
         }
     }
 
-    // Makes a call on a stripe, where nobody has its turn.
+    /// Makes a call on a stripe, where nobody has its turn.
     fn try_stripe(&self, pass: &mut MgrPass<T>, stripe: u8, call: StripeCall<T>) -> Tried<Stripe<T>>
         requires own { IsOfMgr self.now pass.old }
         requires stripe { stripe < STRIPES }
@@ -93,7 +93,8 @@ impl<T: Load> EventManager<T> {
         ensures own { IsOfMgr self.now pass.new }
         ensures step { HasTried T.tag stripe call (mgr_view pass.old) result (mgr_view pass.new) }
     {
-        a_legal_reply_is_in_kind();
+        // A law of legal histories: it does nothing when it runs.
+        legal_names_own_openings();
         self.stripes.try_call(&mut pass.stripes, stripe, call)
     }
 }

@@ -1,7 +1,9 @@
 -- A pass that is split off one and joined into another changes nobody's entries. It is said of any larger passes, by the function `view` from each to what it knows of the cell.
-use Rattle.std.proofs.Common.{◌≡◌, ◌≢◌, ℕ, ◌+◌, ⊎_elim, List, map, set, sym, refl, ap, ◌∙◌, subst, arith, Some, false, true, Bool}
-use Rattle.std.specs.Prelude.{slice_get, ◌||◌}
+use Rattle.std.proofs.Common.{◌≡◌, ◌≢◌, ℕ, zero, suc, ◌+◌, ⊎_elim, List, ◌∷◌, map, set, sym, refl, ap, ◌∙◌, subst, arith, Some}
+use Rattle.std.specs.Prelude.{slice_get}
 use Rattle.std.proofs.lemmas.Option.{same_Some}
+use Rattle.std.proofs.Math.Bool.{or-false}
+use Rattle.std.proofs.lemmas.List.Elements.{All-cons, All-set}
 use mathlib.Core.List.{IsPrefix}
 use Rattle.turn_cell.specs.declared.view.View.{View}
 use Rattle.turn_cell.specs.Classes.{count_in}
@@ -10,12 +12,10 @@ use Rattle.turn_cell.specs.View.{own_entries, right_of, joined_of}
 use Rattle.turn_cell.specs.Calls.{IsSplit, IsJoined}
 use Rattle.turn_cell.proofs.Weights.{same_or, weigh_set}
 use Rattle.turn_cell.proofs.Joins.{prefix_refl, prefix_trans}
-use Rattle.level.specs.Leveling.{seen_by, tries_of, KeepsOwn, Shares, Grows}
-use Rattle.level.proofs.Lists.{set_again, get_else, get_here, map_set, get_map}
-
-or_false : (b : Bool) → (b || false) ≡ b
-or_false true = refl
-or_false false = refl
+use Rattle.level.specs.Leveling.{seen_by, tries_of, KeepsOwn, Grows}
+use Rattle.level.specs.Gathering.{Shares}
+use Rattle.level.specs.Meanings.{PassMeaning, views, AllAreOf, KeepOwn, HaveShared}
+use Rattle.level.proofs.Lists.{set_again, get_else, get_here, map_set, get_map, All-tail}
 
 module _ {E : Type 0} where
   pub keeps_refl : (vs : List (View E)) → KeepsOwn vs vs
@@ -36,7 +36,7 @@ module _ {E : Type 0} where
     tries_stay : tries_of w' ≡ tries_of w
     tries_stay = let is : w' ≡ joined_of w (right_of v) = put.both ∙ ap (joined_of w) cut.right in
         let less : w.tries + 0 ≡ w.tries = omega arith in
-        ap tries_of is ∙ (λ k. (w.name, less k, w.found, or_false w.met_spent k))
+        ap tries_of is ∙ (λ k. (w.name, less k, w.found, or-false w.met_spent k))
 
     pub shared_seen : Shares i j (map seen_by vs) (map seen_by (set (set vs i v') j w'))
     shared_seen = let os : o.seen ≡ v.seen = ap seen_by cut.right in let ws : w'.seen ≡ longer w.seen v.seen = ap seen_by put.both ∙ ap (longer w.seen) os in (
@@ -80,3 +80,40 @@ module _ {A E : Type 0} (view : A → View E) (ps : List A) (i j : ℕ) (v w v' 
 
   pub rows_share : Shares i j (map seen_by (map view ps)) (map seen_by (map view (set (set ps i v') j w')))
   rows_share = subst (λ (l : List (View E)). Shares i j (map seen_by (map view ps)) (map seen_by l)) (sym views_are) (shared_seen (map view ps) i j (view v) (view w) (view v') o (view w') ne (get_map view ps i v at_i) at_view cut put)
+
+-- ---- one pass tells another, of each cell
+
+module _ {P O : Type 0} (m : PassMeaning P O) where
+  pub keep_refl : (ps : List P) → KeepOwn m ps ps
+  keep_refl ps k = keeps_refl _
+
+  pub keep_trans : (ps qs rs : List P) → KeepOwn m ps qs → KeepOwn m qs rs → KeepOwn m ps rs
+  keep_trans ps qs rs a b k = keeps_trans _ _ _ (a k) (b k)
+
+zero_not_suc : (i : ℕ) → zero ≡ suc i → ⊥
+zero_not_suc i e = omega arith
+
+-- the first pass f, and the pass p at a place among the others
+module _ {P O : Type 0} (m : PassMeaning P O) (f f' : P) (ps : List P) (i : ℕ) (p p' : P) (at : slice_get ps i ≡ Some p) where
+  -- p told f
+  module _ (told : HaveShared m p f p' f') where
+    pub gather_keeps : KeepOwn m (f ∷ ps) (f' ∷ set ps i p')
+    gather_keeps k = let h = told k in rows_keep (m.view k) (f ∷ ps) (suc i) zero p f p' f' h.between (λ e. zero_not_suc i (sym e)) at refl h.split h.joined
+
+    pub gather_shares : (k : m.cell) → Shares (suc i) zero (map seen_by (views m k (f ∷ ps))) (map seen_by (views m k (f' ∷ set ps i p')))
+    gather_shares k = let h = told k in rows_share (m.view k) (f ∷ ps) (suc i) zero p f p' f' h.between (λ e. zero_not_suc i (sym e)) at refl h.split h.joined
+
+  -- f told p
+  module _ (told : HaveShared m f p f' p') where
+    pub spread_keeps : KeepOwn m (f ∷ ps) (f' ∷ set ps i p')
+    spread_keeps k = let h = told k in rows_keep (m.view k) (f ∷ ps) zero (suc i) f p f' p' h.between (zero_not_suc i) refl at h.split h.joined
+
+    pub spread_shares : (k : m.cell) → Shares zero (suc i) (map seen_by (views m k (f ∷ ps))) (map seen_by (views m k (f' ∷ set ps i p')))
+    spread_shares k = let h = told k in rows_share (m.view k) (f ∷ ps) zero (suc i) f p f' p' h.between (zero_not_suc i) refl at h.split h.joined
+
+-- ---- the loops over the others
+
+module _ {P O : Type 0} (m : PassMeaning P O) (o : O) (f f' : P) (ps : List P) (i : ℕ) (p p' : P) (at : slice_get ps i ≡ Some p) where
+  -- the first and one of the others were replaced by passes of the same cells
+  pub own_both : m.is_of o f' → m.is_of o p' → AllAreOf m o (f ∷ ps) → AllAreOf m o (f' ∷ set ps i p')
+  own_both first other own = All-cons (m.is_of o) f' (set ps i p') first (All-set (m.is_of o) ps i p' other (All-tail (m.is_of o) f ps own))

@@ -1,20 +1,22 @@
--- What several passes of one cell have seen and made together. It is said of the views of passes, so that it can be said of any larger pass that holds one, by the function from it to that view.
-use Rattle.std.specs.Prelude.{◌≡◌, ℕ, ◌<◌, List, [], map, slice_get, Some, Bool, All}
-use lib.ListN.{set}
+-- To be believed: what several passes of one cell have seen and made together, said of what each of them knows.
+use Rattle.std.specs.Prelude.{◌≡◌, ℕ, List, [], map, slice_get, Some, Bool, false, All}
+use Rattle.std.specs.List.{Contains}
 use mathlib.Core.List.{IsPrefix}
 use Rattle.turn_cell.specs.declared.view.View.{View}
 use Rattle.turn_cell.specs.declared.pass.Pass.{Pass}
 use Rattle.turn_cell.specs.declared.cell.TurnCell.{TurnCell}
 use Rattle.turn_cell.specs.Weights.{weigh}
 use Rattle.turn_cell.specs.Classes.{count_in}
-use Rattle.turn_cell.specs.History.{Log, longer}
+use Rattle.turn_cell.specs.History.{Log}
 use Rattle.turn_cell.specs.View.{own_entries}
-use Rattle.turn_cell.specs.Calls.{IsOf, view_of}
+use Rattle.turn_cell.specs.Calls.{IsOf, view_of, IsSplit, IsJoined}
 
 module _ {E : Type 0} where
+  -- what a pass has seen
   abbrev pub seen_by : View E → Log E
   seen_by v = v.seen
 
+  -- the classes of numbers that are its seats
   abbrev pub classes_of : View E → List (ℕ × ℕ)
   classes_of v = v.classes
 
@@ -22,15 +24,34 @@ module _ {E : Type 0} where
   abbrev pub HoldsEachOnce : List (View E) → Type 0
   HoldsEachOnce vs = (n : ℕ) → weigh (λ v. count_in n v.classes) vs ≡ 1
 
-  -- each pass knows the part's name, has seen nothing and made no `fetch_or`
+  -- the pass knows the part's name, has seen nothing, made no `fetch_or` and found no word
+  pub record IsFresh (part_name : List ℕ) (v : View E) : Type 0 where
+    pub name : v.name ≡ part_name
+    pub seen : v.seen ≡ []
+    pub tries : v.tries ≡ 0
+    pub found : v.found ≡ 0
+    pub met_spent : v.met_spent ≡ false
+
+  -- each of the passes is so
   abbrev pub AreFresh : List ℕ → List (View E) → Type 0
-  AreFresh name vs = All (λ v. (v.name ≡ name) × (v.seen ≡ []) × (v.tries ≡ 0)) vs
+  AreFresh name vs = All (IsFresh name) vs
+
+  -- One pass told another what it had seen: what was split off the one, which knew v and then v', was joined into the other, which knew w and then w'
+  pub record HasShared (v w v' w' : View E) : Type 0 where
+    pub between : View E
+    pub split : IsSplit v v' between
+    pub joined : IsJoined w between w'
 
   -- The passes have seen one history, and each of its entries is one pass's own: whatever entries weigh, the passes' own weigh together what the history weighs
   pub record IsLevel (vs : List (View E)) : Type 0 where
     pub log : Log E
     pub saw : All (λ v. v.seen ≡ log) vs
     pub sums : (f : ℕ × E → ℕ) → weigh (λ v. weigh f (own_entries v)) vs ≡ weigh f log
+
+  -- Passes that knew vs were brought level, and know ws. The history is one that some pass had seen before, so what held of each that had been seen holds of it
+  pub record BroughtLevel (vs ws : List (View E)) : Type 0 where
+    pub level : IsLevel ws
+    pub from : Contains (map seen_by vs) level.log
 
   -- each pass has seen at least what it had seen
   abbrev pub Grows : List (Log E) → List (Log E) → Type 0
@@ -46,18 +67,6 @@ module _ {E : Type 0} where
     pub tries : map tries_of ws ≡ map tries_of vs
     pub counts : (n : ℕ) → weigh (λ v. count_in n v.classes) ws ≡ weigh (λ v. count_in n v.classes) vs
     pub grows : Grows (map seen_by vs) (map seen_by ws)
-
-  -- the pass at j came to see what the pass at i had seen
-  abbrev pub Shares : ℕ → ℕ → List (Log E) → List (Log E) → Type 0
-  Shares i j ls ms = (u w : Log E) × (slice_get ls i ≡ Some u) × (slice_get ls j ≡ Some w) × (ms ≡ set ls j (longer w u)) × IsPrefix u (longer w u) × IsPrefix w (longer w u)
-
-  -- the first has seen all that the first i have seen
-  abbrev pub Gathered : ℕ → List (Log E) → Type 0
-  Gathered i ls = (h : Log E) × (slice_get ls 0 ≡ Some h) × ((k : ℕ) (x : Log E) → k < i → slice_get ls k ≡ Some x → IsPrefix x h)
-
-  -- the first i have seen what the first has seen, and no other has seen more
-  abbrev pub Spread : ℕ → List (Log E) → Type 0
-  Spread i ls = (h : Log E) × (slice_get ls 0 ≡ Some h) × ((k : ℕ) (x : Log E) → slice_get ls k ≡ Some x → IsPrefix x h) × ((k : ℕ) (x : Log E) → k < i → slice_get ls k ≡ Some x → x ≡ h)
 
 module _ {P C R E : Type 0} where
   -- each pass is of the cell

@@ -1,67 +1,47 @@
-// Passes that are brought to one history. A pass that is split off one and joined into another takes along all that the one had seen, and no entry, since it made no call.
-ghost use Rattle.std.specs.Prelude.{◌≡◌, ◌≢◌, ◌<◌, length, map};
-ghost use Rattle.level.specs.Leveling.{AreOf, views_of, seen_by, KeepsOwn, Shares, Gathered, Spread, HoldsEachOnce, IsLevel};
+// Passes that are brought to one history of each of their cells.
+ghost use Rattle.std.specs.Prelude.{◌∷◌, length};
+ghost use Rattle.level.specs.Meanings.{AllAreOf, HoldAllSeats, KeepOwn, AreBroughtLevel};
+ghost use Rattle.level.specs.Gathering.{AreGathered, HaveTold};
 
-use turn_cell::{Part, Pass, TurnCell};
+use crate::share::Share;
 
-/// Brings all passes to one history. Each keeps its own entries.
+/// Brings all passes to one history of each cell. Each keeps its own entries.
 ///
-/// It takes no memory, and waits for no turn: each pass makes some loads.
-pub fn bring_level<P: Part>(cell: &TurnCell<P>, passes: &mut Vec<Pass<P, P::Entry>>)
-    requires some { 0 < length passes.old.items }
-    requires own { AreOf cell.now passes.old.items }
-    requires once { HoldsEachOnce (views_of passes.old.items) }
-    ensures own { AreOf cell.now passes.new.items }
-    ensures count { length passes.new.items ≡ length passes.old.items }
-    ensures keeps { KeepsOwn (views_of passes.old.items) (views_of passes.new.items) }
-    ensures level { IsLevel (views_of passes.new.items) }
+/// It takes no memory, and waits for no turn: what each pass had seen is told to the first, and
+/// what the first has then seen to each.
+pub fn bring_level<P: Share>(of: &P::Of, passes: &mut [P])
+    requires own { AllAreOf P.meaning of.now passes.old }
+    requires seats { HoldAllSeats P.meaning passes.old }
+    ensures own { AllAreOf P.meaning of.now passes.new }
+    ensures keeps { KeepOwn P.meaning passes.old passes.new }
+    ensures level { AreBroughtLevel P.meaning passes.old passes.new }
 {
-    gather(cell, passes);
-    spread(cell, passes);
-}
-
-// The first pass comes to see what any of them has seen.
-fn gather<P: Part>(cell: &TurnCell<P>, passes: &mut Vec<Pass<P, P::Entry>>)
-    requires some { 0 < length passes.old.items }
-    requires own { AreOf cell.now passes.old.items }
-    ensures own { AreOf cell.now passes.new.items }
-    ensures count { length passes.new.items ≡ length passes.old.items }
-    ensures keeps { KeepsOwn (views_of passes.old.items) (views_of passes.new.items) }
-    ensures gathered { Gathered (length passes.new.items) (map seen_by (views_of passes.new.items)) }
-{
-    for i in 1..passes.len() {
-        share(cell, passes, i, 0);
+    if let Some((first, others)) = passes.split_first_mut() {
+        gather(of, first, others);
+        spread(of, first, others);
     }
 }
 
-// Each pass comes to see what the first has seen.
-fn spread<P: Part>(cell: &TurnCell<P>, passes: &mut Vec<Pass<P, P::Entry>>)
-    requires some { 0 < length passes.old.items }
-    requires own { AreOf cell.now passes.old.items }
-    requires gathered { Gathered (length passes.old.items) (map seen_by (views_of passes.old.items)) }
-    ensures own { AreOf cell.now passes.new.items }
-    ensures count { length passes.new.items ≡ length passes.old.items }
-    ensures keeps { KeepsOwn (views_of passes.old.items) (views_of passes.new.items) }
-    ensures spread { Spread (length passes.new.items) (map seen_by (views_of passes.new.items)) }
+/// The first pass comes to see what any of the others has seen.
+fn gather<P: Share>(of: &P::Of, first: &mut P, others: &mut [P])
+    requires own { AllAreOf P.meaning of.now (first.old ∷ others.old) }
+    ensures own { AllAreOf P.meaning of.now (first.new ∷ others.new) }
+    ensures keeps { KeepOwn P.meaning (first.old ∷ others.old) (first.new ∷ others.new) }
+    ensures gathered { AreGathered P.meaning (first.old ∷ others.old) (length (first.new ∷ others.new)) (first.new ∷ others.new) }
 {
-    for i in 1..passes.len() {
-        share(cell, passes, 0, i);
+    for other in others {
+        P::share(of, other, first);
     }
 }
 
-// Splits a pass off one and joins it into another.
-fn share<P: Part>(cell: &TurnCell<P>, passes: &mut Vec<Pass<P, P::Entry>>, from: usize, to: usize)
-    requires places { (from < length passes.old.items) × (to < length passes.old.items) × (from ≢ to) }
-    requires own { AreOf cell.now passes.old.items }
-    ensures own { AreOf cell.now passes.new.items }
-    ensures count { length passes.new.items ≡ length passes.old.items }
-    ensures keeps { KeepsOwn (views_of passes.old.items) (views_of passes.new.items) }
-    ensures shares { Shares from to (map seen_by (views_of passes.old.items)) (map seen_by (views_of passes.new.items)) }
+/// Each of the others comes to see what the first has seen.
+fn spread<P: Share>(of: &P::Of, first: &mut P, others: &mut [P])
+    requires own { AllAreOf P.meaning of.now (first.old ∷ others.old) }
+    ensures own { AllAreOf P.meaning of.now (first.new ∷ others.new) }
+    ensures keeps { KeepOwn P.meaning (first.old ∷ others.old) (first.new ∷ others.new) }
+    ensures told { HaveTold P.meaning (first.old ∷ others.old) (length (first.new ∷ others.new)) (first.new ∷ others.new) }
 {
-    let source = &mut passes[from];
-    let Ok(other) = cell.split(source) else {
-        unreachable!()
-    };
-    let target = &mut passes[to];
-    cell.join(target, other);
+    for other in others {
+        P::share(of, first, other);
+    }
 }

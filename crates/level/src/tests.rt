@@ -34,6 +34,8 @@ impl Part for Ticks {
 
     ghost entry = { λ call reply. reply };
 
+    ghost answers = { λ call reply. Unit {0} };
+
     fn apply(&mut self, _call: ()) -> u64 {
         self.count += 1;
         self.count
@@ -98,7 +100,7 @@ fn tick_once<R: Wait>(
 fn passes_of_all_threads_are_brought_level(rt: HostRuntime) -> Result<(), Fail> {
     let (cell, mut passes) = shared_out(rt.alloc(), no_ticks(), THREADS)?;
     tick_in_threads(&rt, &cell, &mut passes);
-    bring_level(&cell, &mut passes);
+    bring_level(&cell, passes.as_mut_slice());
     assert_eq!(rt; passes.len(), THREADS);
     assert_eq!(rt;
         tick_once(&rt, &cell, &mut passes),

@@ -1,4 +1,4 @@
--- What the calls on a queue say, over what their passes know before and after.
+-- To be believed: what the calls on a queue say, over what their passes know before and after.
 use Rattle.std.specs.Prelude.{◌≡◌, ℕ, [], ◌∷◌, ◌++◌, length}
 use Rattle.crossbeam_queue.specs.Passes.{view, IsPassOf, ruled_capacity}
 use Rattle.reg_keys.specs.declared.event.EventName.{EventName}
@@ -47,7 +47,7 @@ pub record HasMoved (capacity : ℕ) (m : Move) (v w : View Move) : Type 0 where
   pub rest : w ≡ saw w.seen v
   pub legal : IsQueueHistory capacity w.seen
 
--- Nothing was moved, since the queue was full at a step of the call. Its history at that step goes on from what the pass has seen by moves of other seats
+-- Nothing was moved. There is a history of the queue that goes on from what the pass has seen by moves of other seats, and that has filled it. Where the pass has all seats, this is the queue's own history at a step of the call, so the queue was full there. Where it lacks a seat there always is such a history, and this says nothing of the queue
 pub record WasFull (capacity : ℕ) (v w : View Move) : Type 0 where
   pub same : w ≡ v
   pub log : QueueLog
@@ -55,7 +55,7 @@ pub record WasFull (capacity : ℕ) (v w : View Move) : Type 0 where
   pub legal : IsQueueHistory capacity log
   pub full : length (held_after log) ≡ capacity
 
--- Nothing was moved, since the queue was empty at a step of the call. Its history at that step goes on from what the pass has seen by moves of other seats
+-- Nothing was moved. There is a history of the queue that goes on from what the pass has seen by moves of other seats, and that has emptied it. Where the pass has all seats, this is the queue's own history at a step of the call, so the queue was empty there. Where it lacks a seat there always is such a history, and this says nothing of the queue
 pub record WasEmpty (capacity : ℕ) (v w : View Move) : Type 0 where
   pub same : w ≡ v
   pub log : QueueLog

@@ -1,4 +1,4 @@
--- The history of a queue: what was put and taken, in the order of the steps.
+-- To be believed: the history of a queue, which is what was put and taken, in the order of the steps.
 use Rattle.std.specs.Prelude.{◌≡◌, ℕ, ◌<◌, List, [], ◌∷◌, ◌++◌, length}
 use Rattle.reg_keys.specs.declared.event.EventName.{EventName}
 use Rattle.turn_cell.specs.History.{Log}

@@ -1,4 +1,4 @@
--- The rule of a queue, and what each kind of step tells.
+-- Inner: the rule of a queue, and what each kind of step tells.
 use Rattle.std.specs.Prelude.{◌≡◌, ◌≢◌, ℕ, List, [], ◌∷◌, ◌++◌, false, Option, Some, None}
 use mathlib.Core.Option as maths
 use lib.ListN.{get_elem?}

@@ -1,14 +1,14 @@
-// The queue, its passes, and its calls in the order of use.
+//! The queue, its passes, and its calls in the order of use.
 ghost use Rattle.std.specs.Prelude.{◌≡◌, ◌≢◌, ◌<◌, ◌∷◌, [], false, IfOk, IsOk};
 ghost use Rattle.crossbeam_queue.specs.Passes.{view, IsPassOf};
 
-use crate::rule::{Begin, Both, Halve, Look, Move, Order, Puts, Room, Takes};
+use crate::rule::{Begin, Both, Capacity, Halve, Look, Move, Order, Puts, Takes};
 use crossbeam_queue::{Pass, RuledArrayQueue};
 use reg_keys::Event;
 use std::alloc::{AllocError, Global};
 use std::marker::Brand;
 use std::sync::Wait;
-use turn_cell::View;
+use turn_cell::{View, an_entry_is_the_passes_own, halves_are_a_split, joined_views_are_a_join};
 
 type Ring = RuledArrayQueue<Event, View<Move>, Order, Global>;
 
@@ -18,9 +18,8 @@ pub struct ReadyQueue {
     ring: RuledArrayQueue<Event, View<Move>, Order, Global>,
 }
 
-/// What a thread makes calls on a queue with. It has no bytes.
-///
-/// It is of one queue, and belongs to whoever holds it: dropping it leaves its seats to nobody.
+/// What a thread makes calls on a queue with. It has no bytes. It is of one queue, and belongs to whoever holds it:
+/// dropping it leaves its seats to nobody.
 #[derive(Drop)]
 pub struct QPass {
     seat: Pass<Event, View<Move>>,
@@ -32,7 +31,10 @@ pub struct QPass {
 pub enum PutOut {
     /// The event stands at the back of the queue.
     Put,
-    /// The queue held as many events as its capacity. The event is handed back.
+    /// The queue held as many events as its capacity, at a step of the call. The event is handed back.
+    ///
+    /// That it was so is proved of a pass that has all seats. To any other the queue may have been filled by moves
+    /// of seats that aren't the pass's, of which its contract knows nothing: there this is shown by tests.
     Full(Event),
 }
 
@@ -41,7 +43,7 @@ pub enum PutOut {
 pub enum TakeOut {
     /// The event that stood at the front of the queue.
     Taken(Event),
-    /// The queue held no event.
+    /// The queue held no event, at a step of the call. What is proved of this is as at `PutOut::Full`.
     Empty,
 }
 
@@ -50,7 +52,8 @@ impl ReadyQueue {
     ghost use Rattle.turn_cell.specs.View.{first_view};
     ghost use Rattle.ready_queue.specs.Calls.{IsOf, view_of, capacity_of, HasPut, HasTaken};
 
-    /// An empty queue for up to `capacity` events, and its first pass, which has all seats and has seen nothing. All its memory is taken here.
+    /// An empty queue for up to `capacity` events, and its first pass, which has all seats and has seen nothing. All
+    /// its memory is taken here.
     pub fn new(alloc: Global, capacity: u32) -> Result<(ReadyQueue, QPass), AllocError>
         requires some { 0 < capacity }
         ensures capacity { IfOk result (λ q. capacity_of q.0 ≡ capacity) }
@@ -64,12 +67,15 @@ impl ReadyQueue {
 
     /// Puts an event at the back of the queue.
     ///
-    /// It waits for no event to be taken: a full queue hands the event back. It may wait for another thread's `put` or `take` that has begun.
+    /// It waits for no event to be taken: a full queue hands the event back. It may wait for another thread's `put`
+    /// or `take` that has begun.
     pub fn put<R: Wait>(&self, rt: &R, pass: &mut QPass, event: Event) -> PutOut
         requires own { IsOf self.now pass.old }
         ensures own { IsOf self.now pass.new }
         ensures put { HasPut (capacity_of self.now) event (view_of pass.old) result (view_of pass.new) }
     {
+        // A law of own entries: it does nothing when run.
+        an_entry_is_the_passes_own::<Move>();
         match self.ring.push_as::<Puts, R>(rt, &mut pass.seat, event) {
             Ok(()) => PutOut::Put,
             Err(back) => PutOut::Full(back),
@@ -84,15 +90,16 @@ impl ReadyQueue {
         ensures own { IsOf self.now pass.new }
         ensures take { HasTaken (capacity_of self.now) (view_of pass.old) result (view_of pass.new) }
     {
+        // A law of own entries: it does nothing when run.
+        an_entry_is_the_passes_own::<Move>();
         match self.ring.pop_as::<Takes, R>(rt, &mut pass.seat) {
             Some(event) => TakeOut::Taken(event),
             None => TakeOut::Empty,
         }
     }
 
-    /// A pass that has seen what this one has, with no moves of its own. It takes half of this one's first class of seats.
-    ///
-    /// It takes no memory, and always succeeds.
+    /// A pass that has seen what this one has, with no moves of its own. It takes half of this one's first class of
+    /// seats. It takes no memory, and always succeeds.
     pub fn split(&self, pass: &mut QPass) -> Result<QPass, AllocError>
         requires { IsOf self.now pass.old }
         ensures own { IsOf self.now pass.new }
@@ -102,6 +109,8 @@ impl ReadyQueue {
     {
         self.ring.learn_as::<Look>(&mut pass.seat);
         let seat = self.ring.another::<Halve>(&mut pass.seat);
+        // A law of splits: it does nothing when run.
+        halves_are_a_split::<Move>();
         Ok(QPass { seat })
     }
 
@@ -115,14 +124,16 @@ impl ReadyQueue {
         let QPass { seat } = other;
         self.ring.absorb::<Both>(&mut pass.seat, seat);
         self.ring.learn_as::<Look>(&mut pass.seat);
+        // A law of joins: it does nothing when run.
+        joined_views_are_a_join::<Move>();
     }
 }
 
-// Tells the first pass the capacity that C names.
 ghost use Rattle.std.specs.Prelude.{ℕ, Some};
 ghost use Rattle.ready_queue.specs.Rule.{newcomer, made_for};
 
-fn begin<C: Room>(ring: &Ring, seat: &mut Pass<Event, View<Move>>)
+/// Tells the first pass the capacity that C names.
+fn begin<C: Capacity>(ring: &Ring, seat: &mut Pass<Event, View<Move>>)
     requires capacity { (n : ℕ) × (C.capacity ≡ Some n) }
     requires own { IsPassOf ring.now seat.old }
     requires new { view seat.old ≡ newcomer }

@@ -1,6 +1,8 @@
-// The rule of a ready queue, which holds between any two steps of any threads.
-//
-// There is one list of moves, which no memory has: what the ring holds is the events put in it less those taken, each move was allowed where it was made, what each pass has seen begins it, and no seat is of two passes. What a pass knows is the view of a turn cell's pass, whose name is here the capacity.
+//! The rule of a ready queue, which holds between any two steps of any threads.
+//!
+//! There is one list of moves, which no memory has: what the ring holds is the events put in it less those taken,
+//! each move was allowed where it was made, what each pass has seen begins it, and no seat is of two passes. What a
+//! pass knows is the view of a turn cell's pass, whose name is here the capacity.
 ghost use Rattle.std.specs.Prelude.{Option, None, ℕ};
 ghost use Rattle.turn_cell.specs.View.{left_of, right_of, both_of, gone_view};
 ghost use Rattle.ready_queue.specs.declared.rule.Move.TheVariants.{Put, Taken};
@@ -19,7 +21,7 @@ pub enum Move {
     Taken(EventName),
 }
 
-/// The rule.
+/// The rule. It stands in the type of a queue, and nothing is done with it.
 pub struct Order;
 
 impl Protocol<Event, View<Move>> for Order {
@@ -28,7 +30,7 @@ impl Protocol<Event, View<Move>> for Order {
     ghost first = { newcomer };
 }
 
-// An event joins at the back, or the queue is found full.
+/// An event joins at the back, or the queue is found full.
 pub(crate) struct Puts;
 
 impl Outcome<Event, View<Move>> for Puts {
@@ -39,7 +41,7 @@ impl Lesson<Event, View<Move>> for Puts {
     ghost fact = { Learned };
 }
 
-// An event leaves at the front, or the queue is found empty.
+/// An event leaves at the front, or the queue is found empty.
 pub(crate) struct Takes;
 
 impl Outcome<Event, View<Move>> for Takes {
@@ -50,7 +52,7 @@ impl Lesson<Event, View<Move>> for Takes {
     ghost fact = { Learned };
 }
 
-// A look, which changes nothing.
+/// A look, which changes nothing.
 pub(crate) struct Look;
 
 impl Lesson<Event, View<Move>> for Look {
@@ -58,26 +60,26 @@ impl Lesson<Event, View<Move>> for Look {
 }
 
 /// The capacity of a queue that is being made. The call that makes it picks it.
-pub trait Room {
+pub(crate) trait Capacity {
     ghost capacity: { Option ℕ };
 }
 
-impl Room for Brand {
+impl Capacity for Brand {
     ghost capacity = { None };
 }
 
-// The first pass is told the capacity. What is split off it is nobody's.
+/// The first pass is told the capacity. What is split off it is nobody's.
 pub(crate) struct Begin<C> {
-    room: PhantomData<C>,
+    capacity: PhantomData<C>,
 }
 
-impl<C: Room> Split<View<Move>> for Begin<C> {
+impl<C: Capacity> Split<View<Move>> for Begin<C> {
     ghost left = { made_for C.capacity };
 
     ghost right = { λ v. gone_view };
 }
 
-// A pass's first class is cut in two.
+/// A pass's first class is cut in two.
 pub(crate) struct Halve;
 
 impl Split<View<Move>> for Halve {
@@ -86,7 +88,7 @@ impl Split<View<Move>> for Halve {
     ghost right = { right_of };
 }
 
-// A pass takes in another.
+/// A pass takes in another.
 pub(crate) struct Both;
 
 impl Join<View<Move>> for Both {

@@ -2,15 +2,29 @@
 use Rattle.std.specs.Prelude.{◌≡◌, ◌<◌, ◌&&◌, List, [], ◌∷◌, true, false, Bool}
 use Rattle.std.specs.List.{list_any}
 use Rattle.reg_keys.specs.declared.registration.Key.{Key}
+use Rattle.reg_keys.specs.declared.entry.DispatchOutcome.TheVariants.{Ran}
+use Rattle.reg_keys.specs.declared.entry.CloseOutcome.TheVariants.{Shut}
 use Rattle.reg_keys.specs.declared.entry.Entry.{Entry}
+use Rattle.reg_keys.specs.declared.entry.Entry.TheVariants.{Dispatch, Close}
 use Rattle.reg_keys.specs.Tests.{same_key, IsIn}
-use Rattle.reg_keys.specs.Histories.{Registered, waiting, Standing, StillWaits, Unasked, unasked}
+use Rattle.reg_keys.specs.Histories.{keys_run, keys_shut, Registered, waiting, Standing, StillWaits, Unasked, unasked}
 use Rattle.reg_keys.specs.Replies.{is_flag}
 
 -- each key is greater than those before it
 abbrev pub IsAscending : List Registered → Type 0
 IsAscending [] = Unit {0}
 IsAscending (w ∷ ws) = ((v : Registered) → IsIn v ws → w.key.number < v.key.number) × IsAscending ws
+
+-- the same of keys by themselves
+abbrev pub AreAscending : List Key → Type 0
+AreAscending [] = Unit {0}
+AreAscending (k ∷ ks) = ((l : Key) → IsIn l ks → k.number < l.number) × AreAscending ks
+
+-- the keys that the Ran list or the Shut list of an entry shows
+abbrev pub keys_shown : Entry → List Key
+keys_shown (Dispatch x (Ran ran e)) = keys_run ran
+keys_shown (Close o (Shut xs)) = keys_shut xs
+keys_shown _ = []
 
 -- the key waits, and is that of a flag
 abbrev pub waits_as_flag : List Entry → Key → Bool
@@ -27,7 +41,9 @@ told_to_wait past k = list_any (λ (f : Unasked). same_key f.key k && still_wait
 
 -- the definitions agree with one another
 pub record IsConsistent (past : List Entry) : Type 0 where
-  -- registrations wait in the order of their keys, and so do Ran lists and Shut lists
+  -- registrations wait in the order of their keys
   pub in_order : IsAscending (waiting past)
+  -- Ran lists and Shut lists are in that order too
+  pub lists : (e : Entry) → IsIn e past → AreAscending (keys_shown e)
   -- the flags that wait are those whose owners are told so
   pub flags : (k : Key) → waits_as_flag past k ≡ told_to_wait past k

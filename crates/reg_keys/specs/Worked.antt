@@ -1,6 +1,6 @@
 -- To be believed: histories worked by hand, by which the definitions themselves are tested.
--- They stand in the order of their entries. Each is of stripe 0 and its descriptor 0; one has the
--- descriptor 32 besides.
+-- They stand in the order of their entries. Each is of stripe 0 and its descriptor 0, but one that has the
+-- descriptor 32 besides, and one of stripe 31 and its last descriptor.
 use Rattle.std.specs.Prelude.{ℕ, ◌-◌, ◌*◌, ◌^◌, List, [], ◌∷◌, Some, None}
 use Rattle.reg_keys.specs.declared.opening.Opening.{Opening}
 use Rattle.reg_keys.specs.declared.event.EventName.{EventName}
@@ -205,4 +205,21 @@ abbrev pub the_last_number : List Entry
 the_last_number =
     Open 0 (Opens.Opened (o (32 * (2 ^ 50 - 2))))
     ∷ Register (o (32 * (2 ^ 50 - 2))) Read None A Registers.Spent
+    ∷ []
+
+-- the opening of the last descriptor, in stripe 31, with this number
+abbrev pub last : ℕ → Opening
+last n = record { number = n; fd = 4095 }
+
+-- the last stripe draws its own numbers, a report's among them, and its last descriptor is opened and found
+abbrev pub the_last_descriptor : List Entry
+the_last_descriptor =
+    Open 4095 (Opens.Opened (last 63))
+    ∷ Register (last 63) Read None A (Registers.Waits (k 95) (Some (record { number = 127; opening = last 63 })))
+    ∷ Report (last 63) Named.Both (Reports.Noted None)
+    ∷ Open 4095 (Opens.Taken (last 63))
+    ∷ Dispatch (record { number = 127; opening = last 63 }) (Dispatches.Ran (record { key = k 95; dir = Read; marks = marks 159 159; kind = A } ∷ []) None)
+    ∷ Close (last 63) (Closes.Shut [])
+    ∷ Open 4095 (Opens.Opened (last 191))
+    ∷ Report (last 63) Named.Read Reports.Stale
     ∷ []

@@ -39,8 +39,8 @@ pub use limits::{
 pub use opening::Opening;
 pub use registration::{Dir, Dirs, Key, Marks};
 pub use worked::{
-    worked_answers_are_legal, worked_events_are_legal, worked_marks_are_legal,
-    worked_refusals_are_legal,
+    worked_answers_are_legal, worked_events_are_legal, worked_last_descriptor_is_legal,
+    worked_marks_are_legal, worked_refusals_are_legal,
 };
 
 #[cfg(test)]

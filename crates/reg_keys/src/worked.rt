@@ -8,7 +8,7 @@ ghost use Rattle.reg_keys.specs.Worked.{an_event_runs_older_keys, a_forged_event
 ghost use Rattle.reg_keys.specs.Worked.{a_forged_event_takes_none_out, an_old_mark_finds_the_report};
 ghost use Rattle.reg_keys.specs.Worked.{the_mark_of_now_waits, a_flag_is_told_once, a_closed_flag_is_told_once};
 ghost use Rattle.reg_keys.specs.Worked.{a_fired_flag_keeps_its_place, a_flag_is_given_back, a_job_is_given_back_once};
-ghost use Rattle.reg_keys.specs.Worked.{refusals, nothing_is_left, the_last_number};
+ghost use Rattle.reg_keys.specs.Worked.{refusals, nothing_is_left, the_last_number, the_last_descriptor};
 
 /// Openings, events and directions.
 pub fn worked_events_are_legal()
@@ -18,6 +18,11 @@ pub fn worked_events_are_legal()
     ensures older_keys { IsLegal 0 1 (past_of an_event_runs_older_keys) }
     ensures forged_event { IsLegal 0 1 (past_of a_forged_event_runs_nothing) }
     ensures forged_number { IsLegal 0 1 (past_of a_forged_event_takes_none_out) }
+{}
+
+/// The last descriptor, of the last stripe.
+pub fn worked_last_descriptor_is_legal()
+    ensures { IsLegal 31 1 (past_of the_last_descriptor) }
 {}
 
 /// What a registration finds that names a mark.

@@ -17,11 +17,13 @@ use Rattle.stripe_table.specs.Ascending.{Ascends}
 use Rattle.stripe_table.specs.Facts.{Facts, next, fired_of, flag_number, told}
 use Rattle.stripe_table.specs.Stands.{opening, FitsOpen, FitsAt, FitsTable, Shows, Fits, unasked_of, standing_of, AreOrdered}
 use Rattle.stripe_table.specs.Flags.{flag_has}
+use Rattle.stripe_table.specs.Index.{IsIndexed}
 use Rattle.stripe_table.specs.declared.descriptor.OpenDescriptor.{OpenDescriptor}
 use Rattle.stripe_table.specs.declared.flags.UnaskedFlag.{UnaskedFlag}
 use Rattle.stripe_table.specs.declared.stripe.Stripe.{Stripe}
 use Rattle.stripe_table.proofs.Ordering.{above_in, one_number}
 use Rattle.stripe_table.proofs.Facts.{at_set}
+use Rattle.stripe_table.proofs.Listed.{indexed_kept}
 use Rattle.stripe_table.proofs.Naming.{same_parts}
 use Rattle.stripe_table.proofs.Settling.{waiter}
 use Rattle.stripe_table.proofs.Taking.{filter_map}
@@ -37,6 +39,9 @@ one_less p key u (v ∷ vs) a i is h = ⊎_elim
     (λ j. let lt = above_in flag_number v.key.number vs u a.0 j in let r = one_less p key u vs a.1 j is h in
     let kept : same_key key v.key ≡ false = ne_eqb key.number v.key.number (λ e. omega arith) in
     let rest : how_many (fired_of p) (not_asked key (v ∷ vs)) ≡ one_if (fired_of p v) + how_many (fired_of p) (not_asked key vs) = ap (how_many (fired_of p)) (cond-true (not (same_key key v.key)) (v ∷ not_asked key vs) (not_asked key vs) (ap not kept)) in omega arith) i
+
+index_same : {T : Type 0} (st st' : Stripe T) → st'.descriptors.items ≡ st.descriptors.items → st'.index ≡ st.index → IsIndexed st.index st.descriptors.items → IsIndexed st'.index st'.descriptors.items
+index_same {T} st st' items index r = subst (λ (x : List ℕ × List (Option (OpenDescriptor T))). IsIndexed x.0 x.1) (λ i. (sym index i, sym items i)) r
 
 -- whether a standing is that of a flag that waits
 abbrev pub waits_still : Standing → Bool
@@ -91,8 +96,8 @@ module _ {T : Type 0} (tag : T → List (List ℕ)) (st : Stripe T) (f : Facts) 
 
   -- a flag that gives no place free is told
   pub told_shows : (st' : Stripe T) → waits_still u.standing ≡ false → ((i : ℕ) (d : OpenDescriptor T) → slice_get st.descriptors.items i ≡ Some (Some d) → is_fired u.standing ≡ true → same (opening d.number (32 * i + st.stripe)) u.opening ≡ false)
-      → st'.stripe ≡ st.stripe → st'.count ≡ st.count → st'.descriptors.items ≡ st.descriptors.items → st'.flags ≡ filter (λ g. not (flag_has key.number g)) st.flags → Shows tag (told f key) st'
-  told_shows st' out off stripe count items flags = let c = r.count in record {
+      → st'.stripe ≡ st.stripe → st'.count ≡ st.count → st'.descriptors.items ≡ st.descriptors.items → st'.flags ≡ filter (λ g. not (flag_has key.number g)) st.flags → st'.index ≡ st.index → Shows tag (told f key) st'
+  told_shows st' out off stripe count items flags index = let c = r.count in record {
     small = subst (λ (n : ℕ). n < 32) (sym stripe) r.small;
     count = c ∙ sym count;
     table = subst (λ (n : ℕ). FitsTable tag n (told f key) st'.descriptors.items st'.flags) (sym stripe) (subst (λ (l : List (Option (OpenDescriptor T))). FitsTable tag st.stripe (told f key) l st'.flags) (sym items) (record {
@@ -101,6 +106,7 @@ module _ {T : Type 0} (tag : T → List (List ℕ)) (st : Stripe T) (f : Facts) 
       unasked = ap (map unasked_of) flags ∙ (flags_without key st.flags ∙ ap (not_asked key) r.table.unasked);
     }));
     ordered = subst (λ (n : ℕ). AreOrdered n (told f key)) (sym stripe) (told_ordered out);
+    index = index_same st st' items index r.index;
   }
 
   module _ (place : ℕ) (d : OpenDescriptor T) (there : slice_get st.descriptors.items place ≡ Some (Some d)) (number : d.number ≡ flag.opening.number) (fd : flag.opening.fd ≡ 32 * place + st.stripe) (fired : is_fired u.standing ≡ true) where
@@ -131,8 +137,8 @@ module _ {T : Type 0} (tag : T → List (List ℕ)) (st : Stripe T) (f : Facts) 
     }
 
     -- a flag that gives its place free is told
-    pub freed_shows : (st' : Stripe T) → waits_still u.standing ≡ false → st'.stripe ≡ st.stripe → st'.count ≡ st.count → st'.descriptors.items ≡ set st.descriptors.items place (Some (record d { fired = d.fired - 1 })) → st'.flags ≡ filter (λ g. not (flag_has key.number g)) st.flags → Shows tag (told f key) st'
-    freed_shows st' out stripe count items flags = let c = r.count in let d' : OpenDescriptor T = record d { fired = d.fired - 1 } in record {
+    pub freed_shows : (st' : Stripe T) → waits_still u.standing ≡ false → st'.stripe ≡ st.stripe → st'.count ≡ st.count → st'.descriptors.items ≡ set st.descriptors.items place (Some (record d { fired = d.fired - 1 })) → st'.flags ≡ filter (λ g. not (flag_has key.number g)) st.flags → st'.index ≡ st.index → Shows tag (told f key) st'
+    freed_shows st' out stripe count items flags index = let c = r.count in let d' : OpenDescriptor T = record d { fired = d.fired - 1 } in record {
       small = subst (λ (n : ℕ). n < 32) (sym stripe) r.small;
       count = c ∙ sym count;
       table = subst (λ (n : ℕ). FitsTable tag n (told f key) st'.descriptors.items st'.flags) (sym stripe) (subst (λ (l : List (Option (OpenDescriptor T))). FitsTable tag st.stripe (told f key) l st'.flags) (sym items) (record {
@@ -144,6 +150,7 @@ module _ {T : Type 0} (tag : T → List (List ℕ)) (st : Stripe T) (f : Facts) 
         unasked = ap (map unasked_of) flags ∙ (flags_without key st.flags ∙ ap (not_asked key) r.table.unasked);
       }));
       ordered = subst (λ (n : ℕ). AreOrdered n (told f key)) (sym stripe) (told_ordered out);
+      index = subst (λ (x : List ℕ × List (Option (OpenDescriptor T))). IsIndexed x.0 x.1) (λ i. (sym index i, sym items i)) (indexed_kept st.index st.descriptors.items place d d' r.table.many r.index there refl);
     }
 
 module _ {T : Type 0} (tag : T → List (List ℕ)) (st : Stripe T) (f : Facts) (r : Shows tag f st) (key : Key) (flag : UnaskedFlag) (at : flag ∷ [] ≡ filter (flag_has key.number) st.flags) where
@@ -152,31 +159,32 @@ module _ {T : Type 0} (tag : T → List (List ℕ)) (st : Stripe T) (f : Facts) 
   fd_is = let a = (r.ordered.made (unasked_of flag) (u_in tag st f r key flag at)).1 in omega arith
 
   -- a flag that ran is told, whether its opening is live or not
-  pub ran_shows : (st' : Stripe T) → waits_still (standing_of flag.state) ≡ false → is_fired (standing_of flag.state) ≡ true → st'.stripe ≡ st.stripe → st'.count ≡ st.count → st'.flags ≡ filter (λ g. not (flag_has key.number g)) st.flags
+  pub ran_shows : (st' : Stripe T) → waits_still (standing_of flag.state) ≡ false → is_fired (standing_of flag.state) ≡ true → st'.stripe ≡ st.stripe → st'.count ≡ st.count → st'.flags ≡ filter (λ g. not (flag_has key.number g)) st.flags → st'.index ≡ st.index
       → (((d : OpenDescriptor T) → slice_get st.descriptors.items (flag.opening.fd / 32) ≡ Some (Some d) → d.number ≢ flag.opening.number) → st'.descriptors.items ≡ st.descriptors.items)
       → ((d : OpenDescriptor T) → slice_get st.descriptors.items (flag.opening.fd / 32) ≡ Some (Some d) → d.number ≡ flag.opening.number → st'.descriptors.items ≡ set st.descriptors.items (flag.opening.fd / 32) (Some (record d { fired = d.fired - 1 }))) → Shows tag (told f key) st'
-  ran_shows st' out fired stripe count flags absent there = by_get (slice_get st.descriptors.items (flag.opening.fd / 32)) refl
+  ran_shows st' out fired stripe count flags index absent there = by_get (slice_get st.descriptors.items (flag.opening.fd / 32)) refl
     where
       away : ((d : OpenDescriptor T) → slice_get st.descriptors.items (flag.opening.fd / 32) ≡ Some (Some d) → d.number ≢ flag.opening.number) → Shows tag (told f key) st'
       away none = told_shows tag st f r key flag at st' out (λ i d e _. false_from_ne_true (same (opening d.number (32 * i + st.stripe)) flag.opening) (λ h. let p = same_parts (opening d.number (32 * i + st.stripe)) flag.opening h in
-          let fd = p.1 in let here = fd_is in let small = r.small in let place : i ≡ flag.opening.fd / 32 = omega arith in none d (ap (slice_get st.descriptors.items) (sym place) ∙ e) p.0)) stripe count (absent none) flags
+          let fd = p.1 in let here = fd_is in let small = r.small in let place : i ≡ flag.opening.fd / 32 = omega arith in none d (ap (slice_get st.descriptors.items) (sym place) ∙ e) p.0)) stripe count (absent none) flags index
 
       by_get : (x : Option (Option (OpenDescriptor T))) → slice_get st.descriptors.items (flag.opening.fd / 32) ≡ x → Shows tag (told f key) st'
       by_get None e = away (λ d h. absurd (none-some (Some d) (sym e ∙ h)))
       by_get (Some None) e = away (λ d h. absurd (none-some d (same_Some None (Some d) (sym e ∙ h))))
       by_get (Some (Some d)) e = ⊎_elim
-          (λ (h : (d.number == flag.opening.number) ≡ true). let number = eqb-true d.number flag.opening.number h in freed_shows tag st f r key flag at (flag.opening.fd / 32) d e number fd_is fired st' out stripe count (there d e number) flags)
+          (λ (h : (d.number == flag.opening.number) ≡ true). let number = eqb-true d.number flag.opening.number h in freed_shows tag st f r key flag at (flag.opening.fd / 32) d e number fd_is fired st' out stripe count (there d e number) flags index)
           (λ (h : (d.number == flag.opening.number) ≡ false). away (λ d2 at2 n. both_ways (d.number == flag.opening.number) h (eq-eqb d.number flag.opening.number (ap (λ (z : OpenDescriptor T). z.number) (same_Some d d2 (same_Some (Some d) (Some d2) (sym e ∙ at2))) ∙ n))))
           (cases_Bool (d.number == flag.opening.number))
 
 module _ {T : Type 0} (tag : T → List (List ℕ)) where
   -- the stripe shows the same where nothing is told
-  pub same_shows : (st st' : Stripe T) (f : Facts) → Shows tag f st → st'.stripe ≡ st.stripe → st'.count ≡ st.count → st'.descriptors.items ≡ st.descriptors.items → st'.flags ≡ st.flags → Shows tag f st'
-  same_shows st st' f r stripe count items flags = record {
+  pub same_shows : (st st' : Stripe T) (f : Facts) → Shows tag f st → st'.stripe ≡ st.stripe → st'.count ≡ st.count → st'.descriptors.items ≡ st.descriptors.items → st'.flags ≡ st.flags → st'.index ≡ st.index → Shows tag f st'
+  same_shows st st' f r stripe count items flags index = record {
     small = subst (λ (n : ℕ). n < 32) (sym stripe) r.small;
     count = r.count ∙ sym count;
     table = subst (λ (n : ℕ). FitsTable tag n f st'.descriptors.items st'.flags) (sym stripe) (subst (λ (l : List (Option (OpenDescriptor T))). FitsTable tag st.stripe f l st'.flags) (sym items) (subst (λ (l : List UnaskedFlag). FitsTable tag st.stripe f st.descriptors.items l) (sym flags) r.table));
     ordered = subst (λ (n : ℕ). AreOrdered n f) (sym stripe) r.ordered;
+    index = index_same st st' items index r.index;
   }
 
   module _ (st : Stripe T) (past : List Entry) (r : Fits tag past st) (key : Key) where

@@ -17,6 +17,7 @@ use Rattle.stripe_table.specs.Calls.{kind_of, kind_of_job, shut_key}
 use Rattle.stripe_table.specs.Facts.{Facts, facts_of, next, waits_at, out_at, fired_of, flag_at, shut}
 use Rattle.stripe_table.specs.Stands.{registered_of, outs_of, FitsOpen, FitsShut, Shows, unasked_of, IsOrdered, AreOrdered}
 use Rattle.stripe_table.specs.Flags.{flag_has}
+use Rattle.stripe_table.specs.Index.{KeepsOthers}
 use Rattle.stripe_table.specs.Loads as Loads
 use Rattle.stripe_table.specs.Firing as Firing
 use Rattle.stripe_table.specs.Descriptors as Kept
@@ -28,6 +29,7 @@ use Rattle.stripe_table.specs.declared.descriptor.OpenDescriptor.{OpenDescriptor
 use Rattle.stripe_table.specs.declared.flags.UnaskedFlag.{UnaskedFlag}
 use Rattle.stripe_table.specs.declared.stripe.Stripe.{Stripe}
 use Rattle.stripe_table.proofs.Facts.{SameAt, fits_here, changed}
+use Rattle.stripe_table.proofs.Listed.{indexed_set}
 use Rattle.stripe_table.proofs.Naming.{other_fd, same_parts}
 use Rattle.stripe_table.proofs.Steps.{picked, passed}
 use Rattle.stripe_table.proofs.Settling.{settle, shut_is, settled_is, fired_other, stood_taken, settled_ordered}
@@ -109,10 +111,11 @@ module _ {T : Type 0} (tag : T → List (List ℕ)) (s : ℕ) (f : Facts) (o : O
 
 module _ {T : Type 0} (tag : T → List (List ℕ)) where
   pub shut_shows : (st st' : Stripe T) (f : Facts) (o : Opening) (place : ℕ) (d : OpenDescriptor T) → Shows tag f st → slice_get st.descriptors.items place ≡ Some (Some d) → d.number ≡ o.number → o.fd ≡ 32 * place + st.stripe
-      → st'.stripe ≡ st.stripe → st'.count ≡ st.count → st'.descriptors.items ≡ set st.descriptors.items place None → st'.flags ≡ Firing.settle_all Firing.shut_state d.waits st.flags → Shows tag (shut f o (shut_of f o)) st'
-  shut_shows st st' f o place d r at number fd stripe count items flags = let c = r.count in let fit : FitsOpen tag f o d = fits_here tag st f o place d r at number fd in
+      → st'.stripe ≡ st.stripe → st'.count ≡ st.count → st'.descriptors.items ≡ set st.descriptors.items place None → st'.flags ≡ Firing.settle_all Firing.shut_state d.waits st.flags → KeepsOthers place st.index st'.index → Shows tag (shut f o (shut_of f o)) st'
+  shut_shows st st' f o place d r at number fd stripe count items flags others = let c = r.count in let fit : FitsOpen tag f o d = fits_here tag st f o place d r at number fd in
       changed tag st st' f (shut f o (shut_of f o)) o.fd place None r fd (shut_fits tag st.stripe f o d fit r.ordered) (shut_else tag st.stripe f o d fit r.ordered) (shut_ordered tag st.stripe f o d fit r.ordered) stripe (c ∙ sym count) items
       (ap (map unasked_of) flags ∙ shut_flags tag st.stripe f o d fit r.ordered st.flags r.table.unasked)
+      (indexed_set st.index st'.index st.descriptors.items place None r.table.many r.index others (λ x is. absurd (none-some x is)))
 
 module _ (s c : ℕ) (past : List Entry) (o : Opening) where
   pub right_not_open : is_live past o ≡ false → Close o Closes.NotOpen ≡ reply_of s c past (Close o Closes.NotOpen)

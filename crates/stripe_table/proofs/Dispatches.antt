@@ -3,6 +3,7 @@ use Rattle.std.proofs.Common.{◌≡◌, ℕ, ◌+◌, ◌*◌, ◌≢◌, List,
 use Rattle.std.specs.Prelude.{Option, Some, None, filter, if◌then◌else◌, not, ◌||◌, ◌&&◌, ◌==◌, slice_get, nat_lt}
 use Rattle.std.specs.List.{list_any}
 use Rattle.std.proofs.lemmas.Bool.{both_ways, and_parts, eqb-true, eq-eqb, false_from_ne_true}
+use Rattle.std.proofs.lemmas.Option.{same_Some}
 use Rattle.reg_keys.specs.declared.opening.Opening.{Opening}
 use Rattle.reg_keys.specs.declared.event.EventName.{EventName}
 use Rattle.reg_keys.specs.declared.registration.Dir.{Dir}
@@ -20,6 +21,7 @@ use Rattle.stripe_table.specs.Calls.{kind_of, kind_of_job, fired_key}
 use Rattle.stripe_table.specs.Facts.{Facts, facts_of, next, waits_at, out_at, fired_of, flag_at, event_of, with_event, run}
 use Rattle.stripe_table.specs.Stands.{registered_of, outs_of, FitsOpen, Shows, unasked_of, IsOrdered, AreOrdered}
 use Rattle.stripe_table.specs.Flags.{flag_has}
+use Rattle.stripe_table.specs.Index.{KeepsOthers, ListsAll}
 use Rattle.stripe_table.specs.Loads as Loads
 use Rattle.stripe_table.specs.Firing as Firing
 use Rattle.stripe_table.specs.Descriptors as Kept
@@ -31,6 +33,7 @@ use Rattle.stripe_table.specs.declared.descriptor.OpenDescriptor.{OpenDescriptor
 use Rattle.stripe_table.specs.declared.flags.UnaskedFlag.{UnaskedFlag}
 use Rattle.stripe_table.specs.declared.stripe.Stripe.{Stripe}
 use Rattle.stripe_table.proofs.Facts.{SameAt, fits_here, changed}
+use Rattle.stripe_table.proofs.Listed.{indexed_set}
 use Rattle.stripe_table.proofs.Naming.{other_fd, same_parts, any_there}
 use Rattle.stripe_table.proofs.Steps.{picked, passed}
 use Rattle.stripe_table.proofs.Settling.{settle, run_is, settled_is, fired_own, fired_other, stood_taken, settled_ordered}
@@ -224,13 +227,15 @@ module _ {T : Type 0} (tag : T → List (List ℕ)) (s : ℕ) (f : Facts) (o : O
 
 module _ {T : Type 0} (tag : T → List (List ℕ)) (st st' : Stripe T) (f : Facts) (e : EventName) (place : ℕ) (d d' : OpenDescriptor T) (r : Shows tag f st) (at : slice_get st.descriptors.items place ≡ Some (Some d)) (number : d.number ≡ e.opening.number) (fd : e.opening.fd ≡ 32 * place + st.stripe) where
   pub run_shows : d' ≡ Kept.after_run d e.number → st'.stripe ≡ st.stripe → st'.count ≡ st.count → st'.descriptors.items ≡ set st.descriptors.items place (Some d')
-      → st'.flags ≡ Firing.settle_all (Firing.run_state (Kept.marks_now d)) (Kept.taken d e.number) st.flags → Shows tag (run f e (ran_of f e)) st'
-  run_shows d_is stripe count items flags = let c = r.count in let fit : FitsOpen tag f e.opening d = fits_here tag st f e.opening place d r at number fd in let after = after_is d e.number d.out refl in
+      → st'.flags ≡ Firing.settle_all (Firing.run_state (Kept.marks_now d)) (Kept.taken d e.number) st.flags → KeepsOthers place st.index st'.index → (ListsAll st.index place d.waits → ListsAll st'.index place d'.waits) → Shows tag (run f e (ran_of f e)) st'
+  run_shows d_is stripe count items flags others here = let c = r.count in let fit : FitsOpen tag f e.opening d = fits_here tag st f e.opening place d r at number fd in let after = after_is d e.number d.out refl in
       changed tag st st' f (run f e (ran_of f e)) e.opening.fd place (Some (ran_descriptor d d.out e.number)) r fd
       (subst (λ (p : Opening). FitsOpen tag (run f e (ran_of f e)) p (ran_descriptor d d.out e.number)) (λ i. record { number = sym number i; fd = e.opening.fd }) (run_fits tag st.stripe f e.opening e.number d fit r.ordered))
       (run_else tag st.stripe f e.opening e.number d fit r.ordered) (run_ordered tag st.stripe f e.opening e.number d fit r.ordered) stripe (c ∙ sym count)
       (items ∙ ap (λ (x : OpenDescriptor T). set st.descriptors.items place (Some x)) (d_is ∙ after))
       (ap (map unasked_of) flags ∙ run_flags tag st.stripe f e.opening e.number d fit r.ordered st.flags r.table.unasked)
+      (indexed_set st.index st'.index st.descriptors.items place (Some (ran_descriptor d d.out e.number)) r.table.many r.index others
+      (λ x is k h. here (r.index place d at) k (ap (λ (z : OpenDescriptor T). list_any (Kept.waits_as k) z.waits) (d_is ∙ (after ∙ same_Some (ran_descriptor d d.out e.number) x is)) ∙ h)))
 
 module _ (s c : ℕ) (past : List Entry) (e : EventName) where
   pub facts_run : (ran : List FiredKey) (x : Option EventName) → facts_of s c (Dispatch e (Dispatches.Ran ran x) ∷ past) ≡ with_event (run (facts_of s c past) e ran) x

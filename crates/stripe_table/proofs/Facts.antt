@@ -8,6 +8,7 @@ use Rattle.reg_keys.specs.declared.registration.Dir.TheVariants.{Read, Write}
 use Rattle.reg_keys.specs.Tests.{how_many}
 use Rattle.reg_keys.specs.Histories.{Registered, Unasked}
 use Rattle.stripe_table.specs.Ascending.{AllBelow}
+use Rattle.stripe_table.specs.Index.{IsIndexed}
 use Rattle.stripe_table.specs.Facts.{Facts, waits_at, out_at, fired_of, number_of, flag_number}
 use Rattle.stripe_table.specs.Stands.{opening, unasked_of, IsOrdered, AreOrdered, FitsOpen, FitsAt, FitsTable, Shows}
 use Rattle.stripe_table.specs.declared.descriptor.OpenDescriptor.{OpenDescriptor}
@@ -84,13 +85,14 @@ module _ {T : Type 0} (tag : T → List (List ℕ)) where
 
   -- the stripe shows other facts, once one descriptor changed
   pub changed : (st st' : Stripe T) (f g : Facts) (fd place : ℕ) (d : Option (OpenDescriptor T)) → Shows tag f st → fd ≡ 32 * place + st.stripe → FitsAt tag g fd d → ((fd2 : ℕ) → fd2 ≢ fd → SameAt f g fd2) → AreOrdered st.stripe g
-      → st'.stripe ≡ st.stripe → g.count ≡ st'.count → st'.descriptors.items ≡ set st.descriptors.items place d → map unasked_of st'.flags ≡ g.flags → Shows tag g st'
-  changed st st' f g fd place d r fd_is here else' ordered stripe count items flags = record {
+      → st'.stripe ≡ st.stripe → g.count ≡ st'.count → st'.descriptors.items ≡ set st.descriptors.items place d → map unasked_of st'.flags ≡ g.flags → IsIndexed st'.index (set st.descriptors.items place d) → Shows tag g st'
+  changed st st' f g fd place d r fd_is here else' ordered stripe count items flags index = record {
     small = subst (λ (n : ℕ). n < 32) (sym stripe) r.small;
     count = count;
     table = subst (λ (n : ℕ). FitsTable tag n g st'.descriptors.items st'.flags) (sym stripe) (subst (λ (l : List (Option (OpenDescriptor T))). FitsTable tag st.stripe g l st'.flags) (sym items)
         (moved st.stripe f g st.descriptors.items st.flags st'.flags place d r.table (subst (λ (n : ℕ). FitsAt tag g n d) fd_is here) (λ fd2 ne. else' fd2 (λ e. ne (e ∙ fd_is))) flags));
     ordered = subst (λ (n : ℕ). AreOrdered n g) (sym stripe) ordered;
+    index = subst (IsIndexed st'.index) (sym items) index;
   }
 
 -- facts that differ in what is drawn alone

@@ -1,5 +1,6 @@
 pub mod Lists
 pub mod Ordering
+pub mod Listed
 pub mod Facts
 pub mod Naming
 pub mod Steps

@@ -22,7 +22,9 @@ use Rattle.stripe_table.specs.declared.descriptor.Registration.{Registration}
 use Rattle.stripe_table.specs.declared.descriptor.OpenDescriptor.{OpenDescriptor}
 use Rattle.stripe_table.specs.declared.stripe.Stripe.{Stripe}
 use Rattle.stripe_table.proofs.Lists.{filter_case}
+use Rattle.stripe_table.specs.Index.{IsIndexed}
 use Rattle.stripe_table.proofs.Facts.{SameAt, ordered_more, fits_here, changed, same_refl}
+use Rattle.stripe_table.proofs.Listed.{indexed_kept}
 
 pub same_parts : (o p : Opening) → same o p ≡ true → (o.number ≡ p.number) × (o.fd ≡ p.fd)
 same_parts o p e = let a = and_parts (o.number == p.number) (o.fd == p.fd) e in (eqb-true o.number p.number a.0, eqb-true o.fd p.fd a.1)
@@ -211,18 +213,19 @@ module _ {T : Type 0} (tag : T → List (List ℕ)) (st : Stripe T) (o : Opening
     pub unnamed_event : is_some (dirs_to_name d) ≡ false → None ≡ event_of st.stripe f o
     unnamed_event e = sym (event_none tag f o d fit st.stripe (none_left (dirs_to_name d) e))
 
-    pub unnamed_shows : (st' : Stripe T) (d' : OpenDescriptor T) (n : ℕ) → is_some (dirs_to_name d) ≡ false → d' ≡ named d n → st'.stripe ≡ st.stripe → st'.count ≡ st.count → st'.descriptors.items ≡ set st.descriptors.items place (Some d') → st'.flags ≡ st.flags → Shows tag f st'
-    unnamed_shows st' d' n e is stripe count items flags = let none = none_left (dirs_to_name d) e in
+    pub unnamed_shows : (st' : Stripe T) (d' : OpenDescriptor T) (n : ℕ) → is_some (dirs_to_name d) ≡ false → d' ≡ named d n → st'.stripe ≡ st.stripe → st'.count ≡ st.count → st'.descriptors.items ≡ set st.descriptors.items place (Some d') → st'.flags ≡ st.flags → st'.index ≡ st.index → Shows tag f st'
+    unnamed_shows st' d' n e is stripe count items flags index = let none = none_left (dirs_to_name d) e in
         changed tag st st' f f o.fd place (Some d) r fd (at_own f d number fit) (λ fd2 ne. same_refl f fd2) r.ordered stripe (r.count ∙ sym count) (items ∙ ap (λ (x : OpenDescriptor T). set st.descriptors.items place (Some x)) (is ∙ ap (with_out d n) none))
-        (ap (map unasked_of) flags ∙ r.table.unasked)
+        (ap (map unasked_of) flags ∙ r.table.unasked) (subst (λ (l : List ℕ). IsIndexed l (set st.descriptors.items place (Some d))) (sym index) (indexed_kept st.index st.descriptors.items place d d r.table.many r.index at refl))
 
     pub named_event : (n : ℕ) → n ≡ 32 * st.count + st.stripe → is_some (dirs_to_name d) ≡ true → Some (record { number = n; opening = o }) ≡ event_of st.stripe f o
     named_event n n_is e = let ds = some_there (dirs_to_name d) e in let c = r.count in sym (event_some tag f o d fit st.stripe ds.0 ds.1 ∙ ap (λ (k : ℕ). Some (record { number = k; opening = o })) (omega arith))
 
-    pub named_shows : (st' : Stripe T) (d' : OpenDescriptor T) (n : ℕ) (e : EventName) → is_some (dirs_to_name d) ≡ true → d' ≡ named d n → e ≡ record { number = n; opening = o } → st'.stripe ≡ st.stripe → st'.count ≡ st.count + 1 → st'.descriptors.items ≡ set st.descriptors.items place (Some d') → st'.flags ≡ st.flags
+    pub named_shows : (st' : Stripe T) (d' : OpenDescriptor T) (n : ℕ) (e : EventName) → is_some (dirs_to_name d) ≡ true → d' ≡ named d n → e ≡ record { number = n; opening = o } → st'.stripe ≡ st.stripe → st'.count ≡ st.count + 1 → st'.descriptors.items ≡ set st.descriptors.items place (Some d') → st'.flags ≡ st.flags → st'.index ≡ st.index
         → Shows tag (with_event f (Some e)) st'
-    named_shows st' d' n e some is e_is stripe count items flags = let ds = some_there (dirs_to_name d) some in let c = r.count in subst (λ (x : EventName). Shows tag (with_event f (Some x)) st') (sym e_is)
+    named_shows st' d' n e some is e_is stripe count items flags index = let ds = some_there (dirs_to_name d) some in let c = r.count in subst (λ (x : EventName). Shows tag (with_event f (Some x)) st') (sym e_is)
         (changed tag st st' f (with_event f (Some (record { number = n; opening = o }))) o.fd place (Some (record d { out = Some (record { number = n; dirs = ds.0 }) })) r fd
         (at_own (with_event f (Some (record { number = n; opening = o }))) (record d { out = Some (record { number = n; dirs = ds.0 }) }) number (named_fits tag f o d fit n ds.0 ds.1)) (named_else tag f o d fit n)
         (ordered_more st.stripe (next st.stripe f) (32 * (f.count + 1) + st.stripe) f.owner f.waits f.flags (omega arith) r.ordered) stripe (omega arith)
-        (items ∙ ap (λ (x : OpenDescriptor T). set st.descriptors.items place (Some x)) (is ∙ ap (with_out d n) ds.1)) (ap (map unasked_of) flags ∙ r.table.unasked))
+        (items ∙ ap (λ (x : OpenDescriptor T). set st.descriptors.items place (Some x)) (is ∙ ap (with_out d n) ds.1)) (ap (map unasked_of) flags ∙ r.table.unasked)
+        (subst (λ (l : List ℕ). IsIndexed l (set st.descriptors.items place (Some (record d { out = Some (record { number = n; dirs = ds.0 }) })))) (sym index) (indexed_kept st.index st.descriptors.items place d (record d { out = Some (record { number = n; dirs = ds.0 }) }) r.table.many r.index at refl)))

@@ -1,7 +1,8 @@
 -- An opening made in the table is what the definitions say of it.
 use Rattle.std.proofs.Common.{◌≡◌, ℕ, ◌+◌, ◌*◌, ◌%◌, ◌<◌, ◌≢◌, inl, inr, List, [], ◌∷◌, map, set, true, false, sym, refl, ap, ◌∙◌, subst, arith}
 use Rattle.std.specs.Prelude.{Some, None, if◌then◌else◌, ◌||◌, ◌==◌, slice_get}
-use Rattle.std.proofs.lemmas.Bool.{and_left, cond-true, cond-false, eq-eqb, eqb-true, ne_eqb, cond_both}
+use Rattle.std.specs.List.{list_any}
+use Rattle.std.proofs.lemmas.Bool.{both_ways, and_left, cond-true, cond-false, eq-eqb, eqb-true, ne_eqb, cond_both}
 use Rattle.std.proofs.lemmas.Option.{same_Some, none-some}
 use Rattle.reg_keys.specs.declared.opening.Opening.{Opening}
 use Rattle.reg_keys.specs.declared.registration.Dir.TheVariants.{Read, Write}
@@ -17,6 +18,8 @@ use Rattle.stripe_table.specs.Stands.{opening, FitsOpen, FitsShut, Shows, unaske
 use Rattle.stripe_table.specs.Descriptors as Kept
 use Rattle.stripe_table.specs.declared.descriptor.OpenDescriptor.{OpenDescriptor}
 use Rattle.stripe_table.specs.declared.stripe.Stripe.{Stripe}
+use Rattle.stripe_table.specs.Index.{IsIndexed}
+use Rattle.stripe_table.proofs.Listed.{indexed_set}
 use Rattle.stripe_table.proofs.Facts.{SameAt, ordered_more, changed}
 use Rattle.stripe_table.proofs.Naming.{other_fd}
 use Rattle.stripe_table.proofs.Steps.{picked, passed}
@@ -69,11 +72,13 @@ made_ordered s f o number low of free r = let m = ordered_more s (next s f) (nex
 
 module _ {T : Type 0} (tag : T → List (List ℕ)) where
   pub made_shows : (st st' : Stripe T) (f : Facts) (fd place n : ℕ) (d' : OpenDescriptor T) → Shows tag f st → slice_get st.descriptors.items place ≡ Some None → fd ≡ 32 * place + st.stripe → fd < 4096 → fd % 32 ≡ st.stripe → n ≡ 32 * st.count + st.stripe
-      → d' ≡ Kept.just_opened n → st'.stripe ≡ st.stripe → st'.count ≡ st.count + 1 → st'.descriptors.items ≡ set st.descriptors.items place (Some d') → st'.flags ≡ st.flags → Shows tag (made f fd (opening n fd)) st'
-  made_shows st st' f fd place n d' r at fd_is low of n_is d_is stripe count items flags = let c = r.count in let o : Opening = opening n fd in let number : n ≡ next st.stripe f = omega arith in
+      → d' ≡ Kept.just_opened n → st'.stripe ≡ st.stripe → st'.count ≡ st.count + 1 → st'.descriptors.items ≡ set st.descriptors.items place (Some d') → st'.flags ≡ st.flags → st'.index ≡ st.index → Shows tag (made f fd (opening n fd)) st'
+  made_shows st st' f fd place n d' r at fd_is low of n_is d_is stripe count items flags index = let c = r.count in let o : Opening = opening n fd in let number : n ≡ next st.stripe f = omega arith in
       let fit : FitsShut f fd = subst (FitsShut f) (sym fd_is) (r.table.each place None at) in
       changed tag st st' f (made f fd o) fd place (Some (Kept.just_opened n)) r fd_is (made_fits tag st.stripe f o number r.ordered fit) (made_else f o) (made_ordered st.stripe f o number low of fit.owner r.ordered) stripe (omega arith)
       (items ∙ ap (λ (x : OpenDescriptor T). set st.descriptors.items place (Some x)) d_is) (ap (map unasked_of) flags ∙ r.table.unasked)
+      (subst (λ (l : List ℕ). IsIndexed l (set st.descriptors.items place (Some (Kept.just_opened n)))) (sym index) (indexed_set st.index st.index st.descriptors.items place (Some (Kept.just_opened n)) r.table.many r.index (λ k p low2 ne m. m)
+      (λ x is k h. absurd (both_ways false refl (ap (λ (z : OpenDescriptor T). list_any (Kept.waits_as k) z.waits) (same_Some (Kept.just_opened n) x is) ∙ h)))))
 
 module _ (s c : ℕ) (past : List Entry) (fd : ℕ) where
   pub right_taken : (o : Opening) → owner_of past fd ≡ Some o → Open fd (Opens.Taken o) ≡ reply_of s c past (Open fd (Opens.Taken o))

@@ -53,6 +53,7 @@ module _ {T : Type 0} (tag : T → List (List ℕ)) where
         waiters = λ w i e. absurd i;
         few = omega arith;
       };
+      index = λ i d at. absurd (both_ways (list_any is_some st.descriptors.items) shut (any_at is_some st.descriptors.items i (Some d) at refl));
     };
   }
     where

@@ -2,8 +2,9 @@
 use Rattle.std.proofs.Common.{◌≡◌, ℕ, ◌+◌, ◌*◌, ◌≤◌, ◌<◌, ◌≢◌, inl, inr, ⊎_elim, List, [], ◌∷◌, ◌++◌, map, length, set, true, false, Bool, sym, refl, ap, ◌∙◌, subst, arith, length-append, ◌%◌}
 use Rattle.std.specs.Prelude.{Option, Some, None, filter, not, ◌||◌, ◌&&◌, ◌==◌, slice_get, nat_le}
 use Rattle.std.specs.List.{list_any}
-use Rattle.std.proofs.lemmas.Bool.{both_ways, cond-true, cond-false, eq-eqb, ne_eqb, leb-false, or_parts, false_from_ne_true}
+use Rattle.std.proofs.lemmas.Bool.{both_ways, cond-true, cond-false, eq-eqb, eqb-true, ne_eqb, leb-false, or_parts, false_from_ne_true}
 use Rattle.std.proofs.lemmas.List.{append-nil, length-map, map-append}
+use Rattle.std.proofs.lemmas.Option.{same_Some}
 use Rattle.std.proofs.lemmas.List.Elements.{filter-append}
 use Rattle.reg_keys.specs.declared.opening.Opening.{Opening}
 use Rattle.reg_keys.specs.declared.event.EventName.{EventName}
@@ -23,6 +24,7 @@ use Rattle.stripe_table.specs.Calls.{kind_of}
 use Rattle.stripe_table.specs.Facts.{Facts, facts_of, next, waits_at, fired_of, number_of, flag_number, flag_at, event_of, with_event, registered}
 use Rattle.stripe_table.specs.Stands.{registered_of, FitsOpen, Shows, unasked_of, IsOrdered, AreOrdered}
 use Rattle.stripe_table.specs.Flags.{begun}
+use Rattle.stripe_table.specs.Index.{IsListed}
 use Rattle.stripe_table.specs.Loads as Loads
 use Rattle.stripe_table.specs.Descriptors as Kept
 use Rattle.stripe_table.specs.declared.load.Payload.{Payload}
@@ -33,6 +35,7 @@ use Rattle.stripe_table.specs.declared.flags.UnaskedFlag.{UnaskedFlag}
 use Rattle.stripe_table.specs.declared.stripe.Stripe.{Stripe}
 use Rattle.stripe_table.proofs.Lists.{filter_case}
 use Rattle.stripe_table.proofs.Facts.{SameAt, ordered_more, fits_here, changed}
+use Rattle.stripe_table.proofs.Listed.{indexed_set, any_last}
 use Rattle.stripe_table.proofs.Naming.{other_fd, same_parts}
 use Rattle.stripe_table.proofs.Steps.{picked, passed}
 use Rattle.stripe_table.proofs.Ordering.{ascends_last, below_last, below_in, none_new}
@@ -188,8 +191,8 @@ module _ {T : Type 0} (tag : T → List (List ℕ)) where
 
   pub registered_shows : (st st' : Stripe T) (f : Facts) (o : Opening) (place n : ℕ) (d d' : OpenDescriptor T) (dir : Dir) (m : Option ℕ) (load : Payload T) → Shows tag f st → slice_get st.descriptors.items place ≡ Some (Some d) → d.number ≡ o.number → o.fd ≡ 32 * place + st.stripe
       → n ≡ 32 * st.count + st.stripe → length d.waits + d.fired < 4 → (Loads.is_flag load ≡ true → length st.flags < 512) → d' ≡ Kept.registered d n dir m load → st'.stripe ≡ st.stripe → st'.count ≡ st.count + 1 → st'.descriptors.items ≡ set st.descriptors.items place (Some d')
-      → st'.flags ≡ begun (Loads.is_flag load) n o st.flags → Shows tag (registered f o dir m (kind_of tag load) (record { number = next st.stripe f })) st'
-  registered_shows st st' f o place n d d' dir m load r at number fd n_is room flag_room d_is stripe count items flags = let c = r.count in let n_next : n ≡ next st.stripe f = omega arith in let kept : OpenDescriptor T = Kept.registered d (next st.stripe f) dir m load in
+      → st'.flags ≡ begun (Loads.is_flag load) n o st.flags → ((k p : ℕ) → IsListed st.index k p → IsListed st'.index k p) → IsListed st'.index n place → Shows tag (registered f o dir m (kind_of tag load) (record { number = next st.stripe f })) st'
+  registered_shows st st' f o place n d d' dir m load r at number fd n_is room flag_room d_is stripe count items flags listed new = let c = r.count in let n_next : n ≡ next st.stripe f = omega arith in let kept : OpenDescriptor T = Kept.registered d (next st.stripe f) dir m load in
       let fit : FitsOpen tag f o d = fits_here tag st f o place d r at number fd in
       let g : Facts = registered f o dir m (kind_of tag load) (record { number = next st.stripe f }) in let few : length f.flags ≡ length st.flags = ap length (sym r.table.unasked) ∙ length-map st.flags unasked_of in
       let kept_number : kept.number ≡ o.number = number_same dir ∙ number in
@@ -197,6 +200,10 @@ module _ {T : Type 0} (tag : T → List (List ℕ)) where
       (registered_ordered st.stripe f o dir m load r.ordered fit.owner (λ e. let a = flag_room e in omega arith)) stripe (omega arith)
       (items ∙ (ap (λ (x : OpenDescriptor T). set st.descriptors.items place (Some x)) d_is ∙ ap (λ (k : ℕ). set st.descriptors.items place (Some (Kept.registered d k dir m load))) n_next))
       (ap (map unasked_of) flags ∙ (begun_is n o load st.flags f.flags r.table.unasked ∙ ap (λ (k : ℕ). flag_made (kind_of tag load) (record { number = k }) o f.flags) n_next))
+      (indexed_set st.index st'.index st.descriptors.items place (Some kept) r.table.many r.index (λ k p low ne h. listed k p h)
+      (λ x is k h. ⊎_elim (λ (old : list_any (Kept.waits_as k) d.waits ≡ true). listed k place (r.index place d at k old))
+      (λ (own : (next st.stripe f == k) ≡ true). subst (λ (q : ℕ). IsListed st'.index q place) (n_next ∙ eqb-true (next st.stripe f) k own) new)
+      (any_last (Kept.waits_as k) d.waits (record { key = next st.stripe f; dir = dir; load = load }) (ap (λ (z : OpenDescriptor T). list_any (Kept.waits_as k) z.waits) (same_Some kept x is) ∙ h))))
     where
       number_same : (e : Dir) → (Kept.registered d (next st.stripe f) e m load).number ≡ d.number
       number_same Read = refl

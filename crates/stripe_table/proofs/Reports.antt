@@ -1,5 +1,5 @@
 -- A report on the table is what the definitions say of it.
-use Rattle.std.proofs.Common.{◌≡◌, ℕ, ◌+◌, ◌*◌, ◌≢◌, List, ◌∷◌, map, set, true, false, Bool, sym, refl, ap, ◌∙◌, arith}
+use Rattle.std.proofs.Common.{◌≡◌, ℕ, ◌+◌, ◌*◌, ◌≢◌, List, ◌∷◌, map, set, true, false, Bool, sym, refl, ap, ◌∙◌, subst, arith}
 use Rattle.std.specs.Prelude.{Option, Some, None, if◌then◌else◌, not, ◌||◌, ◌&&◌, slice_get}
 use Rattle.std.proofs.lemmas.Bool.{both_ways, and_left, cond-false}
 use Rattle.reg_keys.specs.declared.opening.Opening.{Opening}
@@ -19,6 +19,8 @@ use Rattle.stripe_table.specs.Descriptors as Kept
 use Rattle.stripe_table.specs.declared.descriptor.Side.{Side}
 use Rattle.stripe_table.specs.declared.descriptor.OpenDescriptor.{OpenDescriptor}
 use Rattle.stripe_table.specs.declared.stripe.Stripe.{Stripe}
+use Rattle.stripe_table.specs.Index.{IsIndexed}
+use Rattle.stripe_table.proofs.Listed.{indexed_kept}
 use Rattle.stripe_table.proofs.Facts.{SameAt, ordered_more, fits_here, changed}
 use Rattle.stripe_table.proofs.Naming.{other_fd, at_own}
 use Rattle.stripe_table.proofs.Steps.{picked, passed}
@@ -58,11 +60,12 @@ module _ {T : Type 0} (tag : T → List (List ℕ)) (s : ℕ) where
   }
 
   pub noted_shows : (st st' : Stripe T) (f : Facts) (o : Opening) (place : ℕ) (d d' : OpenDescriptor T) (ds : Dirs) → st.stripe ≡ s → Shows tag f st → slice_get st.descriptors.items place ≡ Some (Some d) → d.number ≡ o.number → o.fd ≡ 32 * place + st.stripe
-      → d' ≡ Kept.noted d ds (32 * st.count + st.stripe) → st'.stripe ≡ st.stripe → st'.count ≡ st.count + 1 → st'.descriptors.items ≡ set st.descriptors.items place (Some d') → st'.flags ≡ st.flags → Shows tag (noted s f o ds) st'
-  noted_shows st st' f o place d d' ds s_is r at number fd d_is stripe count items flags = let c = r.count in let n : ℕ = 32 * st.count + st.stripe in let kept : OpenDescriptor T = Kept.noted d ds n in
+      → d' ≡ Kept.noted d ds (32 * st.count + st.stripe) → st'.stripe ≡ st.stripe → st'.count ≡ st.count + 1 → st'.descriptors.items ≡ set st.descriptors.items place (Some d') → st'.flags ≡ st.flags → st'.index ≡ st.index → Shows tag (noted s f o ds) st'
+  noted_shows st st' f o place d d' ds s_is r at number fd d_is stripe count items flags index = let c = r.count in let n : ℕ = 32 * st.count + st.stripe in let kept : OpenDescriptor T = Kept.noted d ds n in
       changed tag st st' f (noted s f o ds) o.fd place (Some kept) r fd (at_own tag st o place d at number fd f r (noted s f o ds) kept number (noted_fits f o d ds n (omega arith) (fits_here tag st f o place d r at number fd))) (noted_else f o ds)
       (ordered_more st.stripe (next st.stripe f) (32 * (f.count + 1) + st.stripe) f.owner f.waits f.flags (omega arith) r.ordered) stripe (omega arith)
       (items ∙ ap (λ (x : OpenDescriptor T). set st.descriptors.items place (Some x)) d_is) (ap (map unasked_of) flags ∙ r.table.unasked)
+      (subst (λ (l : List ℕ). IsIndexed l (set st.descriptors.items place (Some kept))) (sym index) (indexed_kept st.index st.descriptors.items place d kept r.table.many r.index at refl))
 
   module _ (c : ℕ) (past : List Entry) (o : Opening) (ds : Dirs) where
     pub facts_noted : (e : Option EventName) → facts_of s c (Report o ds (Reports.Noted e) ∷ past) ≡ with_event (noted s (facts_of s c past) o ds) e

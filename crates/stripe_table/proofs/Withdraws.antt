@@ -3,7 +3,7 @@ use Rattle.std.proofs.Common.{◌≡◌, ℕ, ◌+◌, ◌*◌, ◌/◌, ◌≤�
 use Rattle.std.specs.Prelude.{Option, Some, None, filter, if◌then◌else◌, not, ◌||◌, ◌&&◌, ◌==◌, slice_get}
 use Rattle.std.specs.List.{list_any}
 use Rattle.std.proofs.lemmas.Bool.{both_ways, or_parts, cond-false, eqb-true, eq-eqb, ne_eqb, false_from_ne_true, not-true, not_from_false}
-use Rattle.std.proofs.lemmas.Option.{none-some}
+use Rattle.std.proofs.lemmas.Option.{same_Some, none-some}
 use Rattle.reg_keys.specs.declared.opening.Opening.{Opening}
 use Rattle.reg_keys.specs.declared.registration.Key.{Key}
 use Rattle.reg_keys.specs.declared.entry.WithdrawOutcome.TheVariants as Withdraws
@@ -17,6 +17,7 @@ use Rattle.stripe_table.specs.Calls.{kind_of, kind_of_job}
 use Rattle.stripe_table.specs.Facts.{Facts, facts_of, next, waits_at, fired_of, number_of, flag_number, flag_at, withdrawn}
 use Rattle.stripe_table.specs.Stands.{opening, registered_of, FitsOpen, Shows, Fits, unasked_of, IsOrdered, AreOrdered}
 use Rattle.stripe_table.specs.Flags.{flag_has, ended}
+use Rattle.stripe_table.specs.Index.{KeepsOthers, ListsAll}
 use Rattle.stripe_table.specs.Loads as Loads
 use Rattle.stripe_table.specs.Descriptors as Kept
 use Rattle.stripe_table.specs.declared.load.Payload.{Payload}
@@ -28,6 +29,7 @@ use Rattle.stripe_table.specs.declared.stripe.Stripe.{Stripe}
 use Rattle.stripe_table.proofs.Lists.{filter_case, none_passes}
 use Rattle.stripe_table.proofs.Ordering.{in_one, one_number, ascends_left, below_left}
 use Rattle.stripe_table.proofs.Facts.{SameAt, changed}
+use Rattle.stripe_table.proofs.Listed.{indexed_set}
 use Rattle.stripe_table.proofs.Steps.{within}
 use Rattle.stripe_table.proofs.Settling.{waiter}
 use Rattle.stripe_table.proofs.Taking.{filter_agrees, filter_map, split_room, waits_in, left_here}
@@ -178,11 +180,13 @@ module _ {T : Type 0} (tag : T → List (List ℕ)) where
 
   pub withdrawn_shows : (st st' : Stripe T) (f : Facts) (place : ℕ) (d d' : OpenDescriptor T) (key : Key) (q : Registration T) → Shows tag f st → slice_get st.descriptors.items place ≡ Some (Some d) → IsIn q d.waits → q.key ≡ key.number
       → d' ≡ record d { waits = filter (λ x. not (Kept.waits_as key.number x)) d.waits } → st'.stripe ≡ st.stripe → st'.count ≡ st.count → st'.descriptors.items ≡ set st.descriptors.items place (Some d') → st'.flags ≡ ended (Loads.is_flag q.load) key.number st.flags
-      → Shows tag (withdrawn f key (kind_of tag q.load)) st'
-  withdrawn_shows st st' f place d d' key q r at q_in q_is d_is stripe count items flags = let c = r.count in let o : Opening = opening d.number (32 * place + st.stripe) in let fit : FitsOpen tag f o d = r.table.each place (Some d) at in
+      → KeepsOthers place st.index st'.index → ListsAll st'.index place d'.waits → Shows tag (withdrawn f key (kind_of tag q.load)) st'
+  withdrawn_shows st st' f place d d' key q r at q_in q_is d_is stripe count items flags others here = let c = r.count in let o : Opening = opening d.number (32 * place + st.stripe) in let fit : FitsOpen tag f o d = r.table.each place (Some d) at in
       changed tag st st' f (withdrawn f key (kind_of tag q.load)) o.fd place (Some (record d { waits = filter (λ x. not (Kept.waits_as key.number x)) d.waits })) r refl (withdrawn_fits tag st.stripe f o d fit r.ordered key q q_in q_is)
       (withdrawn_else tag st.stripe f o d fit r.ordered key q q_in q_is) (withdrawn_ordered tag st.stripe f o d fit r.ordered key q q_in q_is) stripe (c ∙ sym count) (items ∙ ap (λ (x : OpenDescriptor T). set st.descriptors.items place (Some x)) d_is)
       (ap (map unasked_of) flags ∙ ended_is tag st.stripe f o d fit r.ordered key q q_in q_is st.flags r.table.unasked)
+      (indexed_set st.index st'.index st.descriptors.items place (Some (record d { waits = filter (λ x. not (Kept.waits_as key.number x)) d.waits })) r.table.many r.index others
+      (λ x is k h. here k (ap (λ (z : OpenDescriptor T). list_any (Kept.waits_as k) z.waits) (d_is ∙ same_Some (record d { waits = filter (λ y. not (Kept.waits_as key.number y)) d.waits }) x is) ∙ h)))
 
   module _ (st : Stripe T) (past : List Entry) (r : Fits tag past st) (key : Key) where
     pub right_back : (place : ℕ) (d : OpenDescriptor T) (q : Registration T) (job : Option T) → slice_get st.descriptors.items place ≡ Some (Some d) → IsIn q d.waits → q.key ≡ key.number → job ≡ Loads.job_of q.load

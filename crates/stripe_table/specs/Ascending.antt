@@ -1,4 +1,4 @@
--- Lists whose numbers ascend.
+-- Inner: lists whose numbers ascend.
 use Rattle.std.specs.Prelude.{ℕ, ◌<◌, List, [], ◌∷◌}
 
 module _ {A : Type 0} (number : A → ℕ) where

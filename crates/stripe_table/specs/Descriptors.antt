@@ -1,4 +1,4 @@
--- What the calls do to what is kept of an open descriptor.
+-- Inner: what the calls do to what is kept of an open descriptor.
 use Rattle.std.specs.Prelude.{ℕ, ◌+◌, ◌&&◌, ◌==◌, not, nat_lt, true, false, Bool, Option, Some, None, List, [], ◌∷◌, ◌++◌, filter, if◌then◌else◌}
 use Rattle.std.specs.List.{list_any}
 use Rattle.reg_keys.specs.Tests.{same_dir, has_dir, how_many}

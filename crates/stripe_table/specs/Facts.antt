@@ -1,4 +1,4 @@
--- What is so after a past, taken together.
+-- Inner: what is so after a past, taken together, and what the calls make of it.
 use Rattle.std.specs.Prelude.{ℕ, ◌++◌, not, if◌then◌else◌, ◌+◌, ◌*◌, ◌&&◌, ◌||◌, ◌==◌, List, [], ◌∷◌, filter, map, Bool, Option, Some, None}
 use Rattle.std.specs.List.{list_any}
 use Rattle.reg_keys.specs.declared.opening.Opening.{Opening}

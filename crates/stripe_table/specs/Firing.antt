@@ -1,4 +1,4 @@
--- What becomes of registrations that are taken out of their places.
+-- Inner: what becomes of registrations that are taken out of their places.
 use Rattle.std.specs.Prelude.{Option, List, [], ◌∷◌, map, if◌then◌else◌}
 use Rattle.reg_keys.specs.declared.registration.Key.{Key}
 use Rattle.reg_keys.specs.declared.registration.Marks.{Marks}

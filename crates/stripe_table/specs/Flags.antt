@@ -1,4 +1,4 @@
--- What is done to flags.
+-- Inner: what is done to flags.
 use Rattle.std.specs.Prelude.{ℕ, ◌==◌, Bool, true, false, List, [], ◌∷◌, ◌++◌, filter, not, if◌then◌else◌}
 use Rattle.reg_keys.specs.declared.opening.Opening.{Opening}
 use Rattle.stripe_table.specs.declared.flags.FlagState.{FlagState}

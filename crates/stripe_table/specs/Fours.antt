@@ -1,4 +1,4 @@
--- Four places, filled from the first on.
+-- To be believed: a list of at most four in four places, filled from the first on.
 use Rattle.std.specs.Prelude.{List, [], ◌∷◌, Option, Some, None}
 
 module _ {X : Type 0} where

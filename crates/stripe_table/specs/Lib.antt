@@ -5,5 +5,6 @@ pub mod Facts
 pub mod Firing
 pub mod Flags
 pub mod Fours
+pub mod Index
 pub mod Loads
 pub mod Stands

@@ -1,4 +1,4 @@
--- What a registration carries.
+-- To be believed: what a registration carries.
 use Rattle.std.specs.Prelude.{Bool, true, false, Option, Some, None}
 use Rattle.stripe_table.specs.declared.load.Payload.{Payload}
 use Rattle.stripe_table.specs.declared.load.Payload.TheVariants.{Job, Flag}

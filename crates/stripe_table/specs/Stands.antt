@@ -1,4 +1,4 @@
--- What a stripe stands for: the pasts whose facts its table shows.
+-- To be believed: what a stripe stands for, which is the legal pasts whose facts its table shows.
 use Rattle.std.specs.Prelude.{◌≡◌, ℕ, ◌+◌, ◌*◌, ◌%◌, ◌<◌, ◌≤◌, List, [], ◌∷◌, filter, map, length, true, false, Option, Some, None, slice_get}
 use Rattle.std.specs.List.{list_any}
 use Rattle.reg_keys.specs.declared.opening.Opening.{Opening}
@@ -9,6 +9,7 @@ use Rattle.reg_keys.specs.Histories.{Registered, EventOut, Unasked, Standing, St
 use Rattle.reg_keys.specs.Replies.{is_flag, reply_of, IsLegal}
 use Rattle.stripe_table.specs.Ascending.{Ascends, AllBelow}
 use Rattle.stripe_table.specs.Calls.{kind_of}
+use Rattle.stripe_table.specs.Index.{IsIndexed}
 use Rattle.stripe_table.specs.Facts.{Facts, facts_of, next, waits_at, out_at, fired_of, number_of, flag_number, flag_at}
 use Rattle.stripe_table.specs.declared.descriptor.OutSlot.{OutSlot}
 use Rattle.stripe_table.specs.declared.descriptor.Registration.{Registration}
@@ -99,6 +100,7 @@ module _ {T : Type 0} (tag : T → List (List ℕ)) where
     pub count : f.count ≡ st.count
     pub table : FitsTable st.stripe f st.descriptors.items st.flags
     pub ordered : AreOrdered st.stripe f
+    pub index : IsIndexed st.index st.descriptors.items
 
   -- the stripe shows what is so after the past
   abbrev pub Fits : List Entry → Stripe T → Type 0

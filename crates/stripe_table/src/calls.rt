@@ -1,4 +1,4 @@
-// The calls of a stripe and their replies, a type of reply for each call.
+//! The calls of a stripe and their replies, a type of reply for each call.
 use crate::four::Four;
 use crate::load::Payload;
 use reg_keys::{Dir, Dirs, Event, Key, Marks, Opening};

@@ -1,11 +1,12 @@
-// What a stripe keeps of an open descriptor: its opening, for each direction whether it is taken to
-// be ready and the number of its last report, what waits, and the event that is out.
+//! What a stripe keeps of an open descriptor: its opening, for each direction whether it is taken to
+//! be ready and the number of its last report, what waits, and the event that is out.
 ghost use Rattle.std.specs.Prelude.{◌≡◌, ◌<◌, ◌≤◌, ◌+◌, length, None, Some, is_some, filter, not, map, nat_le};
 
 use crate::calls::FiredList;
 use crate::firing::{flags_among, run_all};
 use crate::flags::Flags;
 use crate::four::Four;
+use crate::index::KeyIndex;
 use crate::load::Payload;
 use reg_keys::{Dir, Dirs, Marks, PLACES};
 
@@ -78,6 +79,7 @@ impl<T: Drop> OpenDescriptor<T> {
     ghost use Rattle.std.specs.List.{list_any};
     ghost use Rattle.stripe_table.specs.Ascending.{Ascends};
     ghost use Rattle.stripe_table.specs.Flags.{key_of};
+    ghost use Rattle.stripe_table.specs.Index.{KeepsOthers, ListsAll};
     ghost use Rattle.stripe_table.specs.Firing.{fired_as, settle_all, run_state};
     ghost use Rattle.stripe_table.specs.Descriptors.{just_opened, goes, due_to_read, due_to_write, dirs_of, noted, registered, dirs_to_name, named, waits_as, marks_now, taken, after_run};
 
@@ -209,12 +211,21 @@ impl<T: Drop> OpenDescriptor<T> {
         taken
     }
 
-    /// Runs the event of a number, if it is the one that is out.
-    pub fn run(&mut self, number: u64, flags: &mut Flags) -> FiredList<T>
-        requires { self.old.fired ≤ 4 }
+    /// Runs the event of a number, if it is the one that is out. The descriptor is at this place.
+    pub fn run(
+        &mut self,
+        number: u64,
+        place: usize,
+        flags: &mut Flags,
+        index: &mut KeyIndex,
+    ) -> FiredList<T>
+        requires fired { self.old.fired ≤ 4 }
+        requires place { place < 128 }
         ensures list { result ≡ map (fired_as (marks_now self.old)) (taken self.old number) }
         ensures left { self.new ≡ after_run self.old number }
         ensures flags { Ascends key_of flags.old → flags.new ≡ settle_all (run_state (marks_now self.old)) (taken self.old number) flags.old }
+        ensures others { KeepsOthers place index.old index.new }
+        ensures here { ListsAll index.old place self.old.waits → ListsAll index.new place self.new.waits }
     {
         let Some(event) = self.out else {
             return Four::new();
@@ -229,6 +240,7 @@ impl<T: Drop> OpenDescriptor<T> {
         self.out = None;
         let taken = self.take_due(&event);
         self.fired += flags_among(&taken);
+        index.take_out(&taken, &self.waits, place);
         run_all(taken, marks, flags)
     }
 

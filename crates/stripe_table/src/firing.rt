@@ -1,5 +1,5 @@
-// What becomes of registrations that are taken out of their places: an event runs them, or their
-// opening is closed. Jobs are handed out, and flags are told how they came out.
+//! What becomes of registrations that are taken out of their places: an event runs them, or their
+//! opening is closed. Jobs are handed out, and flags are told how they came out.
 ghost use Rattle.std.specs.Prelude.{◌≡◌, ◌<◌, ◌≤◌, length, map};
 ghost use Rattle.reg_keys.specs.Tests.{how_many};
 ghost use Rattle.stripe_table.specs.Ascending.{Ascends};
@@ -62,7 +62,7 @@ pub fn shut_all<T: Drop>(waits: Four<Registration<T>>, flags: &mut Flags) -> Shu
     list
 }
 
-// Tells a flag how it came out. A job isn't told.
+/// Tells a flag how it came out. A job isn't told.
 fn tell<T: Drop>(registration: &Registration<T>, state: FlagState, flags: &mut Flags)
     ensures told { Ascends key_of flags.old → flags.new ≡ told_of state registration.now flags.old }
     ensures ascends { Ascends key_of flags.old → Ascends key_of flags.new }

@@ -1,5 +1,5 @@
-// The flags of a stripe that haven't been asked to their end, in the order of their registration,
-// which is that of their keys. A flag stays here when it has run and when its opening was closed.
+//! The flags of a stripe that haven't been asked to their end, in the order of their registration,
+//! which is that of their keys. A flag stays here when it has run and when its opening was closed.
 ghost use Rattle.std.specs.Prelude.{◌≡◌, ◌<◌, ◌≤◌, ◌++◌, ◌∷◌, [], length, map, filter, not, if◌then◌else◌, nat_le, slice_get, IfOk, IfSome, IfNone, None, Some, true, false, option_to_list};
 ghost use Rattle.std.specs.List.{list_any};
 ghost use Rattle.stripe_table.specs.Ascending.{Ascends};
@@ -109,7 +109,7 @@ impl Flags {
         }
     }
 
-    // The place of a flag, found by halving, since the keys ascend.
+    /// The place of a flag, found by halving, since the keys ascend.
     fn place_of(&self, key: u64) -> Option<usize>
         ensures there { IfSome result (λ i. (f : UnaskedFlag) × (slice_get self.now i ≡ Some f) × (f.key ≡ key)) }
         ensures absent { IfNone result (Ascends key_of self.now → list_any (flag_has key) self.now ≡ false) }

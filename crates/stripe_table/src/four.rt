@@ -1,5 +1,5 @@
-// A list of at most four, in place: a descriptor has four places, so what an event runs and what
-// a close gives back never needs the heap.
+//! A list of at most four, in place: a descriptor has four places, so what an event runs and what
+//! a close gives back never needs the heap.
 ghost use Rattle.std.specs.Prelude.{◌≡◌, ◌<◌, ◌≤◌, List, [], ◌∷◌, ◌++◌, length, MatchOption, Some, None, slice_get, IfSome, IfNone, take, drop};
 
 use std::marker::Model;

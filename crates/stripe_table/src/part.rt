@@ -1,4 +1,4 @@
-// The stripe as a part that calls are applied to one after the other.
+//! The stripe as a part that calls are applied to one after the other.
 ghost use Rattle.std.specs.Prelude.{◌∷◌, [], map};
 ghost use Rattle.reg_keys.specs.Histories.{past_of};
 ghost use Rattle.stripe_table.specs.Stands.{Stands};

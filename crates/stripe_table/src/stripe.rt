@@ -1,16 +1,18 @@
-// One stripe of the table of callbacks. A descriptor of the stripe is at the place `fd / 32` of its
-// table; what lies in the stripe itself is a few words.
+//! One stripe of the table of callbacks. A descriptor of the stripe is at the place `fd / 32` of its
+//! table; what lies in the stripe itself is a few words.
 ghost use Rattle.std.specs.Prelude.{◌≡◌, ◌≢◌, ◌<◌, ◌≤◌, ◌+◌, ◌*◌, ◌/◌, ◌%◌, ◌^◌, ◌∷◌, [], ℕ, List, length, IfOk, IfSome, IfNone, Some, None, slice_get, nat_le, is_some, ◌||◌, ◌&&◌, ◌-◌, true, false};
 ghost use Rattle.std.specs.List.{list_any};
 ghost use Rattle.std.proofs.Common.{set};
 ghost use Rattle.stripe_table.specs.Descriptors.{waits_as, waits_at};
 
+use crate::bits::{lowest_bit, without_bit};
 use crate::calls::{
     AskReply, CloseReply, DispatchReply, OpenReply, RegisterReply, ReportReply, WithdrawReply,
 };
 use crate::descriptor::OpenDescriptor;
 use crate::firing::shut_all;
 use crate::flags::{FlagState, Flags};
+use crate::index::KeyIndex;
 use crate::load::{Load, Payload};
 use reg_keys::{Dir, Dirs, Event, Key, LAST_COUNT, Opening, STRIPE_DESCRIPTORS, STRIPES};
 use std::alloc::{AllocError, Global};
@@ -24,6 +26,7 @@ pub struct Stripe<T> {
     count: u64,
     descriptors: Vec<Option<OpenDescriptor<T>>>,
     flags: Flags,
+    index: KeyIndex,
 }
 
 impl<T: Load> Stripe<T> {
@@ -33,6 +36,7 @@ impl<T: Load> Stripe<T> {
     ghost use Rattle.stripe_table.specs.Calls.{opened, reported, registered, withdrawn, asked, dispatched, closed, kind_of, HandsBack, HandsEventBack};
     ghost use Rattle.stripe_table.specs.Loads.{is_flag};
     ghost use Rattle.stripe_table.specs.Facts.{Facts, event_of, with_event};
+    ghost use Rattle.stripe_table.specs.Index.{IsIndexed};
     ghost use Rattle.stripe_table.specs.Stands.{Shows, Fits, Step, Stands};
 
     /// Makes a stripe, one of 32, that has no openings. Its numbers begin at the count 1.
@@ -51,16 +55,18 @@ impl<T: Load> Stripe<T> {
     {
         let descriptors = no_descriptors(alloc)?;
         let flags = Flags::new(alloc)?;
+        let index = KeyIndex::new(alloc)?;
         Ok(Stripe {
             stripe,
             first: count,
             count,
             descriptors,
             flags,
+            index,
         })
     }
 
-    // The place of a live opening.
+    /// The place of a live opening.
     fn place_of(&self, o: &Opening) -> Option<usize>
         ensures there { IfSome result (λ i. (i ≡ o.now.fd / 32) × (d : OpenDescriptor T) × (slice_get self.now.descriptors.items i ≡ Some (Some d)) × (d.number ≡ o.now.number)) }
         ensures absent { IfNone result ((d : OpenDescriptor T) → slice_get self.now.descriptors.items (o.now.fd / 32) ≡ Some (Some d) → d.number ≢ o.now.number) }
@@ -79,7 +85,7 @@ impl<T: Load> Stripe<T> {
         }
     }
 
-    // The number that is drawn next.
+    /// The number that is drawn next.
     fn next_number(&self) -> u64
         requires { self.now.count < 2 ^ 51 }
         ensures { result ≡ 32 * self.now.count + self.now.stripe }
@@ -87,7 +93,7 @@ impl<T: Load> Stripe<T> {
         self.count * STRIPES + self.stripe as u64
     }
 
-    // Names an event for an opening where one is due, which is at this place.
+    /// Names an event for an opening where one is due, which is at this place.
     fn name_event(&mut self, o: Opening, place: usize) -> Option<Event>
         requires count { self.old.count < 2 ^ 51 }
         requires there { (d : OpenDescriptor T) × (slice_get self.old.descriptors.items place ≡ Some (Some d)) × (d.number ≡ o.number) }
@@ -150,7 +156,8 @@ impl<T: Load> Stripe<T> {
         descriptor.note(dirs, number);
         ReportReply::Noted(self.name_event(o, place))
     }
-    // Whether a registration finds no place for itself or for its flag.
+
+    /// Whether a registration finds no place for itself or for its flag.
     fn is_crowded(&self, place: usize, load: &Payload<T>) -> bool
         requires { (d : OpenDescriptor T) × (slice_get self.now.descriptors.items place ≡ Some (Some d)) }
         ensures { (d : OpenDescriptor T) → slice_get self.now.descriptors.items place ≡ Some (Some d) → result ≡ (nat_le 4 (length d.waits + d.fired) || (is_flag load.now && nat_le 512 (length self.now.flags))) }
@@ -191,9 +198,11 @@ impl<T: Load> Stripe<T> {
             unreachable!()
         };
         descriptor.register(key, dir, mark, load);
+        self.index.add(key, place);
         let event = self.name_event(o, place);
         RegisterReply::Waits(Key { number: key }, event)
     }
+
     /// Runs what an event is for. An event that isn't out runs nothing.
     pub fn dispatch(&mut self, event: Event) -> DispatchReply<T>
         requires of { event.opening.fd % 32 ≡ self.old.stripe }
@@ -211,7 +220,7 @@ impl<T: Load> Stripe<T> {
         let Some(descriptor) = &mut self.descriptors[place] else {
             unreachable!()
         };
-        let list = descriptor.run(event.number(), &mut self.flags);
+        let list = descriptor.run(event.number(), place, &mut self.flags, &mut self.index);
         let next = self.name_event(o, place);
         DispatchReply::Ran(list, next)
     }
@@ -229,17 +238,37 @@ impl<T: Load> Stripe<T> {
             unreachable!()
         };
         let waits = descriptor.waits.take();
+        self.index.remove_all(&waits, place);
         CloseReply::Shut(shut_all(waits, &mut self.flags))
     }
-    // The place of the descriptor at which a key waits, found in one pass.
+
+    /// The place of the descriptor at which a key waits. It is one of those that the index lists for the key's class.
     fn holder_of(&self, key: u64) -> Option<usize>
+        requires { length self.now.descriptors.items ≡ 128 }
         ensures there { IfSome result (λ i. (d : OpenDescriptor T) × (slice_get self.now.descriptors.items i ≡ Some (Some d)) × (list_any (waits_as key) d.waits ≡ true)) }
-        ensures absent { IfNone result ((i : ℕ) (d : OpenDescriptor T) → slice_get self.now.descriptors.items i ≡ Some (Some d) → list_any (waits_as key) d.waits ≡ false) }
+        ensures absent { IfNone result (IsIndexed self.now.index self.now.descriptors.items → (i : ℕ) (d : OpenDescriptor T) → slice_get self.now.descriptors.items i ≡ Some (Some d) → list_any (waits_as key) d.waits ≡ false) }
     {
-        for place in 0..self.descriptors.len() {
+        if let Some(place) = self.holder_among(key, 0) {
+            return Some(place);
+        }
+        self.holder_among(key, 1)
+    }
+
+    /// The same among the first 64 places, or among the others.
+    fn holder_among(&self, key: u64, half: usize) -> Option<usize>
+        requires many { length self.now.descriptors.items ≡ 128 }
+        requires half { half < 2 }
+        ensures there { IfSome result (λ i. (d : OpenDescriptor T) × (slice_get self.now.descriptors.items i ≡ Some (Some d)) × (list_any (waits_as key) d.waits ≡ true)) }
+        ensures absent { IfNone result (IsIndexed self.now.index self.now.descriptors.items → (i : ℕ) (d : OpenDescriptor T) → i / 64 ≡ half → slice_get self.now.descriptors.items i ≡ Some (Some d) → list_any (waits_as key) d.waits ≡ false) }
+    {
+        let mut listed = self.index.half(key, half);
+        while listed != 0 {
+            let bit = lowest_bit(listed);
+            let place = half * 64 + bit as usize;
             if has_key(&self.descriptors[place], key) {
                 return Some(place);
             }
+            listed = without_bit(listed, bit);
         }
         None
     }
@@ -256,6 +285,7 @@ impl<T: Load> Stripe<T> {
             unreachable!()
         };
         let mut taken = descriptor.take_key(key.number);
+        self.index.take_out(&taken, &descriptor.waits, place);
         let Some(registration) = taken.pop_first() else {
             unreachable!()
         };
@@ -263,10 +293,10 @@ impl<T: Load> Stripe<T> {
         WithdrawReply::Back(registration.load.into_job())
     }
 
-    // Gives the place of a flag free that ran and was asked for, if its opening is live.
+    /// Gives the place of a flag free that ran and was asked for, if its opening is live.
     fn free_place(&mut self, o: &Opening)
         requires { (d : OpenDescriptor T) → slice_get self.old.descriptors.items (o.now.fd / 32) ≡ Some (Some d) → d.number ≡ o.now.number → 0 < d.fired }
-        ensures same { (self.new.stripe ≡ self.old.stripe) × (self.new.first ≡ self.old.first) × (self.new.count ≡ self.old.count) × (self.new.flags ≡ self.old.flags) }
+        ensures same { (self.new.stripe ≡ self.old.stripe) × (self.new.first ≡ self.old.first) × (self.new.count ≡ self.old.count) × (self.new.flags ≡ self.old.flags) × (self.new.index ≡ self.old.index) }
         ensures absent { ((d : OpenDescriptor T) → slice_get self.old.descriptors.items (o.now.fd / 32) ≡ Some (Some d) → d.number ≢ o.now.number) → self.new.descriptors.items ≡ self.old.descriptors.items }
         ensures there { (d : OpenDescriptor T) → slice_get self.old.descriptors.items (o.now.fd / 32) ≡ Some (Some d) → d.number ≡ o.now.number → self.new.descriptors.items ≡ set self.old.descriptors.items (o.now.fd / 32) (Some (record d { fired = d.fired - 1 })) }
     {
@@ -298,7 +328,7 @@ impl<T: Load> Stripe<T> {
     }
 }
 
-// Whether a key waits at a descriptor.
+/// Whether a key waits at a descriptor.
 fn has_key<T: Drop>(kept: &Option<OpenDescriptor<T>>, key: u64) -> bool
     ensures { result ≡ waits_at key kept.now }
 {
@@ -308,7 +338,7 @@ fn has_key<T: Drop>(kept: &Option<OpenDescriptor<T>>, key: u64) -> bool
     }
 }
 
-// The table of a stripe's 128 descriptors, none of which is open.
+/// The table of a stripe's 128 descriptors, none of which is open.
 fn no_descriptors<T: Drop>(alloc: Global) -> Result<Vec<Option<OpenDescriptor<T>>>, AllocError>
     ensures { IfOk result (λ v. (length v.items ≡ 128) × (list_any is_some v.items ≡ false)) }
 {

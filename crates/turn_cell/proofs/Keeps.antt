@@ -16,9 +16,9 @@ use Rattle.turn_cell.specs.declared.view.Turn.TheVariants.{Idle, Making, Holds}
 use Rattle.turn_cell.specs.declared.view.JoinPending.TheVariants.{Nothing}
 use Rattle.turn_cell.specs.declared.view.View.{View}
 use Rattle.turn_cell.specs.Classes.{Within, AreClasses, Apart}
-use Rattle.turn_cell.specs.History.{Log, AtFirsts, Ahead}
+use Rattle.turn_cell.specs.History.{Log, AtFirsts, Ahead, IsPart}
 use Rattle.turn_cell.specs.View.{turned, tried, has_seen, newcomer, seat_of, Fits}
-use Rattle.turn_cell.specs.Rule.{words_with, odd_of, Sees, IsPart, KnowsTurn, Kept, asked, begun, given_back, ended, looked}
+use Rattle.turn_cell.specs.Rule.{words_with, odd_of, Sees, KnowsTurn, Kept, asked, begun, given_back, ended, looked}
 use Rattle.turn_cell.proofs.Seats.{stay, first_within, only_first, only_outside, firsts_snoc, ahead_snoc, ahead_here, firsts_before}
 
 pub or_even : (m : ℕ) → bit_or (2 * m) 1 ≡ 2 * m + 1

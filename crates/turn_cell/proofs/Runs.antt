@@ -1,7 +1,6 @@
 -- The one slot that a pass holds during a call, and what taking the turn tells.
 use Rattle.std.proofs.Common.{◌≡◌, ℕ, ◌%◌, ◌^◌, ◌≢◌, length, ⊎_elim, List, [], ◌∷◌, ◌++◌, sym, ap, ◌∙◌, arith}
 use Rattle.std.specs.Prelude.{Option, Some}
-use Rattle.std.proofs.lemmas.Option.{same_Some}
 use Rattle.atomic_table.specs.Table.{Me, rest}
 use Rattle.turn_cell.specs.declared.view.Turn.{Turn}
 use Rattle.turn_cell.specs.declared.view.Turn.TheVariants.{Idle, Holds}

@@ -7,9 +7,8 @@ use Rattle.turn_cell.specs.declared.view.JoinPending.TheVariants.{Nothing}
 use Rattle.turn_cell.specs.declared.view.View.{View}
 use Rattle.turn_cell.specs.Weights.{weigh}
 use Rattle.turn_cell.specs.Classes.{AreClasses, count_in, first_of}
-use Rattle.turn_cell.specs.History.{Log, entries_in, Foreign, AtFirsts, Ahead}
+use Rattle.turn_cell.specs.History.{Log, entries_in, Foreign, AtFirsts, Ahead, IsPart}
 use Rattle.turn_cell.specs.View.{own_entries, seat_of, turned, tried, has_seen, left_of, right_of, joined_of, both_of, Fits}
-use Rattle.turn_cell.specs.Rule.{IsPart}
 use Rattle.turn_cell.specs.Calls.{IsUnmoved, IsRefused, IsSplit, IsJoined, Entered, WasSpent}
 use Rattle.turn_cell.proofs.Classes.{append_apart, count_halves, count_in-append}
 use Rattle.turn_cell.proofs.Entries.{entries_in-halved, entries_in-other_half, entries_in_step, weigh_apart}

@@ -11,9 +11,8 @@ use Rattle.turn_cell.specs.declared.pass.Tried.TheVariants.{Done, Busy, Spent}
 use Rattle.turn_cell.specs.declared.cell.TurnCell.{TurnCell}
 use Rattle.turn_cell.specs.Weights.{weigh}
 use Rattle.turn_cell.specs.Classes.{AreClasses, count_in}
-use Rattle.turn_cell.specs.History.{Log, entries_in, Foreign, Ahead}
+use Rattle.turn_cell.specs.History.{Log, entries_in, Foreign, Ahead, IsPart}
 use Rattle.turn_cell.specs.View.{own_entries, seat_of, tried, left_of, right_of, joined_of}
-use Rattle.turn_cell.specs.Rule.{IsPart}
 
 module _ {P E : Type 0} where
   -- what the pass knows

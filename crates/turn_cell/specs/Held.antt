@@ -3,9 +3,8 @@ use Rattle.std.specs.Prelude.{◌≡◌, ◌≢◌, ℕ, ◌^◌, ◌<◌, List,
 use Rattle.atomic_table.specs.Table.{Me, rest}
 use Rattle.turn_cell.specs.declared.view.Turn.TheVariants.{Holds}
 use Rattle.turn_cell.specs.declared.view.View.{View}
-use Rattle.turn_cell.specs.History.{Log}
+use Rattle.turn_cell.specs.History.{Log, IsPart}
 use Rattle.turn_cell.specs.View.{seat_of, has_seen}
-use Rattle.turn_cell.specs.Rule.{IsPart}
 
 module _ {E : Type 0} where
   -- the turn was ended, and the entry is the last of the history

@@ -1,4 +1,4 @@
--- To be believed: histories, and what of a history belongs to classes of seats.
+-- To be believed: histories, what of a history belongs to classes of seats, and what a part has to do with one.
 use Rattle.std.specs.Prelude.{◌≡◌, ℕ, List, [], ◌∷◌, ◌++◌, length, filter, nat_lt, if◌then◌else◌}
 use Rattle.turn_cell.specs.Classes.{Within, within, OnlyFirsts}
 
@@ -28,3 +28,7 @@ module _ {E : Type 0} where
   -- the longer of two beginnings of one history
   abbrev pub longer : Log E → Log E → Log E
   longer xs ys = (if nat_lt (length xs) (length ys) then ys else xs)
+
+  -- the part has this name and stands for this history
+  abbrev pub IsPart : {P : Type 0} → (P → Log E → Type 0) → (P → List ℕ) → List ℕ → Log E → P → Type 0
+  IsPart stands name_of name log p = stands p log × (name_of p ≡ name)

@@ -8,7 +8,7 @@ use Rattle.turn_cell.specs.declared.view.Turn.TheVariants.{Idle, Making, Holds}
 use Rattle.turn_cell.specs.declared.view.JoinPending.TheVariants.{Nothing}
 use Rattle.turn_cell.specs.declared.view.View.{View}
 use Rattle.turn_cell.specs.Classes.{AreClasses, Apart}
-use Rattle.turn_cell.specs.History.{Log, Ahead, AtFirsts}
+use Rattle.turn_cell.specs.History.{Log, Ahead, AtFirsts, IsPart}
 use Rattle.turn_cell.specs.View.{seat_of, turned, tried, has_seen, Fits}
 
 -- what the word has beyond twice the entries: one while a pass holds the turn
@@ -26,10 +26,6 @@ module _ {E : Type 0} where
   Sees name log v = (v.name ≡ name) × AreClasses v.classes × Ahead v.classes v.seen log × AtFirsts v.classes log × Fits v.told
 
   module _ {P : Type 0} (stands : P → Log E → Type 0) (name_of : P → List ℕ) where
-    -- the part has this name and stands for this history
-    abbrev pub IsPart : List ℕ → Log E → P → Type 0
-    IsPart name log p = stands p log × (name_of p ≡ name)
-
     -- what a pass knows of the turn is so
     abbrev pub KnowsTurn : Option ℕ → Log E → List (maths.Option (Option P)) → ℕ → Turn E → Type 0
     KnowsTurn holder log homes id Idle = Unit {0}
@@ -42,14 +38,14 @@ module _ {E : Type 0} where
       pub holder : Option ℕ
       pub word : s.words ≡ words_with (2 * length log + odd_of holder)
       pub short : length log ≤ 2 ^ 62
-      pub home : holder ≡ None → (p : P) × (get_elem? s.homes 1 ≡ maths.some (maths.some (Some p))) × IsPart name log p
+      pub home : holder ≡ None → (p : P) × (get_elem? s.homes 1 ≡ maths.some (maths.some (Some p))) × IsPart stands name_of name log p
       pub turns : (j : ℕ) (v : View E) → get_elem? s.views j ≡ maths.some v → KnowsTurn holder log s.homes j v.turn
       pub sights : (j : ℕ) (v : View E) → get_elem? s.views j ≡ maths.some v → v.gone ≡ false → Sees name log v
       pub apart : (i j : ℕ) (v w : View E) → i ≢ j → get_elem? s.views i ≡ maths.some v → get_elem? s.views j ≡ maths.some w → v.gone ≡ false → w.gone ≡ false → Apart v.classes w.classes
 
     -- the pass took the turn of a history l whose part is p
     abbrev pub HasTaken : Me (Option P) (View E) → ℕ → Me (Option P) (View E) → Type 0
-    HasTaken m n m' = (l : Log E) × (p : P) × (n ≡ 2 * length l) × (length l ≤ 2 ^ 62) × (m'.0 ≡ tried n (Holds l) m.0) × (m'.1 ≡ (1, Some p) ∷ m.1) × IsPart m.0.name l p × Ahead m.0.classes m.0.seen l × AreClasses m.0.classes
+    HasTaken m n m' = (l : Log E) × (p : P) × (n ≡ 2 * length l) × (length l ≤ 2 ^ 62) × (m'.0 ≡ tried n (Holds l) m.0) × (m'.1 ≡ (1, Some p) ∷ m.1) × IsPart stands name_of m.0.name l p × Ahead m.0.classes m.0.seen l × AreClasses m.0.classes
 
     -- the turn was asked for, and is held where the word was even
     abbrev pub HasAsked : Me (Option P) (View E) → ℕ → Me (Option P) (View E) → Type 0

@@ -159,7 +159,10 @@ impl<P: Part> TurnCell<P> {
         ensures cell { IfErr result (λ c. (c.0 ≡ self) × IsOf c.0 c.1) }
         ensures held { IfErr result (λ c. IsRefused (view_of pass) (view_of c.1)) }
     {
-        let found = self.table.shared.fetch_or::<Take<P>>(&mut pass.seat, WORD, 1);
+        let found = self
+            .table
+            .shared
+            .fetch_or::<Take<P>>(&mut pass.seat, WORD, 1);
         if found % 2 == 1 {
             return Err((self, pass));
         }

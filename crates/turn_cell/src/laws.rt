@@ -27,7 +27,7 @@ pub fn an_entry_is_the_passes_own<E>()
     ensures { (classes : List (ℕ × ℕ)) (seen between : Log E) (e : E) → classes ≢ [] → AreClasses classes
         → Foreign classes between
         → entries_in classes ((seen ++ between) ++ (first_of classes, e) ∷ [])
-            ≡ entries_in classes seen ++ (first_of classes, e) ∷ [] }
+        ≡ entries_in classes seen ++ (first_of classes, e) ∷ [] }
 {}
 
 /// Behind what a pass with all seats has seen there is nothing.

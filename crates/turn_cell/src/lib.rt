@@ -12,9 +12,9 @@
 #![tactic(auto)]
 
 // What is called, and with what.
+mod cell;
 mod part;
 mod pass;
-mod cell;
 
 // What contracts know of it.
 mod laws;

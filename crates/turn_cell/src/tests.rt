@@ -305,7 +305,14 @@ fn offer(cell: &TurnCell<Counterfoil>, pass: Pass<Counterfoil, u64>, note: Bankn
 #[test]
 fn a_note_that_is_handed_back_is_the_very_one(rt: HostRuntime) -> Result<(), Fail> {
     let (cell, pass) = TurnCell::new(rt.alloc(), Counterfoil { offers: 0 })?;
-    let back = offer(&cell, pass, Banknote { value: 5, serial: 7 });
+    let back = offer(
+        &cell,
+        pass,
+        Banknote {
+            value: 5,
+            serial: 7,
+        },
+    );
     assert_eq!(rt; (back.value, back.serial), (5, 7));
     Ok(())
 }

@@ -1,12 +1,27 @@
-use Rattle.std.proofs.Common.{◌∙◌}
-use Rattle.level.proofs.Lists.{length_map}
-use Rattle.level.proofs.Sharing.{keeps_trans}
-use Rattle.level.proofs.Levels.{levels}
-use Rattle.turn_cell.specs.Calls.{view_of}
+use Rattle.std.proofs.Common.{◌∷◌, sym, subst}
+use Rattle.level.specs.Meanings.{AllAreOf, KeepOwn, HoldAllSeats, AreBroughtLevel}
+use Rattle.level.proofs.Sharing.{keep_trans}
+use Rattle.level.proofs.Levels.{all_level, none_level}
 use Rattle.level.proofs.level.bring_level.Goals as goal
 
-pub returns-clause-level : goal.returns-clause-level
-returns-clause-level g c = levels _ _ (length_map view_of c.spread.new.passes.items) (λ n. c.spread.ensures.keeps.counts n ∙ (c.gather.ensures.keeps.counts n ∙ c.requires.once n)) c.spread.ensures.spread
+pub gather-requires : goal.gather-requires
+gather-requires g c = record { own = subst (AllAreOf g.P.Share.meaning c.args.of.now) c.in-Some.ensures.cases.0 c.requires.own }
 
-pub returns-clause-keeps : goal.returns-clause-keeps
-returns-clause-keeps g c = keeps_trans _ _ _ c.gather.ensures.keeps c.spread.ensures.keeps
+pub returns-in-Some-clause-keeps : goal.returns-in-Some-clause-keeps
+returns-in-Some-clause-keeps g c = let m = g.P.Share.meaning in
+    let before = c.in-Some.first.now ∷ c.in-Some.others.now in
+    let between = c.gather.new.first ∷ c.gather.new.others in
+    let after = c.spread.new.first ∷ c.spread.new.others in
+    subst (λ ps. KeepOwn m ps after) (sym c.in-Some.ensures.cases.0) (keep_trans m before between after c.gather.ensures.keeps c.spread.ensures.keeps)
+
+pub returns-in-Some-clause-level : goal.returns-in-Some-clause-level
+returns-in-Some-clause-level g c = let m = g.P.Share.meaning in
+    let before = c.in-Some.first.now ∷ c.in-Some.others.now in
+    let between = c.gather.new.first ∷ c.gather.new.others in
+    let after = c.spread.new.first ∷ c.spread.new.others in
+    let seats = subst (HoldAllSeats m) c.in-Some.ensures.cases.0 c.requires.seats in
+    subst (λ ps. AreBroughtLevel m ps after) (sym c.in-Some.ensures.cases.0)
+    (all_level m before after seats (keep_trans m before between after c.gather.ensures.keeps c.spread.ensures.keeps) (c.spread.ensures.told before c.gather.ensures.gathered))
+
+pub returns-in_default-clause-level : goal.returns-in_default-clause-level
+returns-in_default-clause-level g c = none_level g.P.Share.meaning c.args.passes.now c.in_default.ensures.cases c.requires.seats

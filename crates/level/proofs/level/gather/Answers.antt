@@ -1,27 +1,53 @@
-use Rattle.std.proofs.Common.{rules, refl, sym, ◌∙◌, arith}
+use Rattle.std.proofs.Common.{◌≡◌, suc, ◌∷◌, ◌+◌, length, get_or, map, set, subst, arith}
+use Rattle.std.specs.Prelude.{slice_get, Some}
+use Rattle.std.proofs.lemmas.Option.{slice_get-get_or}
 use Rattle.level.specs.Leveling.{seen_by}
-use Rattle.level.proofs.Lists.{first_item, get_map}
-use Rattle.level.proofs.Sharing.{keeps_refl, keeps_trans}
-use Rattle.level.proofs.Levels.{gathers, gathered_start}
-use Rattle.turn_cell.specs.Calls.{view_of}
+use Rattle.level.specs.Meanings.{views}
+use Rattle.level.specs.Gathering.{Gathered}
+use Rattle.level.proofs.Lists.{All-head, All-get, All-tail}
+use Rattle.level.proofs.Sharing.{keep_refl, keep_trans, own_both, gather_keeps, gather_shares}
+use Rattle.level.proofs.Levels.{gathers, all_gathered_start}
 use Rattle.level.proofs.level.gather.Goals as goal
 
-pub loop-i-init : goal.loop-i-init
-loop-i-init g c = let f = first_item c.args.passes.now.items c.requires.some in record {
-  one = omega arith;
-  end = search rules;
-  count = refl;
+pub loop-other-init : goal.loop-other-init
+loop-other-init g c = let m = g.P.Share.meaning in record {
   own = c.requires.own;
-  keeps = keeps_refl _;
-  gathered = gathered_start _ _ (get_map seen_by _ 0 _ (get_map view_of _ 0 f.0 f.1));
+  keeps = keep_refl m (c.args.first.now ∷ c.args.others.now);
+  gathered = all_gathered_start m c.args.first.now c.args.others.now;
 }
 
-pub loop-i-preserved : goal.loop-i-preserved
-loop-i-preserved g c = let v = c.loop-i.invariant in record {
-  one = omega arith;
-  end = v.end ∙ sym c.share.ensures.count;
-  count = c.share.ensures.count ∙ v.count;
-  own = c.share.ensures.own;
-  keeps = keeps_trans _ _ _ v.keeps c.share.ensures.keeps;
-  gathered = gathers c.loop-i.i _ _ v.one v.gathered c.share.ensures.shares;
-}
+pub share-requires-clause-from : goal.share-requires-clause-from
+share-requires-clause-from g c = let m = g.P.Share.meaning in let v = c.loop-other.invariant in
+    let lt = c.loop-other-test.true in
+    let many = c.loop-other.auto.other-items in
+    let at = slice_get-get_or c.loop-other.other-items c.loop-other.other-index c.other-item.result (omega arith) in
+    All-get (m.is_of c.args.of.now) _ _ _ at (All-tail (m.is_of c.args.of.now) _ _ v.own)
+
+pub share-requires-clause-to : goal.share-requires-clause-to
+share-requires-clause-to g c = All-head (g.P.Share.meaning.is_of c.args.of.now) _ _ c.loop-other.invariant.own
+
+pub loop-other-preserved : goal.loop-other-preserved
+loop-other-preserved g c = let m = g.P.Share.meaning in let v = c.loop-other.invariant in
+    let lt = c.loop-other-test.true in
+    let f = c.loop-other.first in
+    let f' = c.share.new.to in
+    let ps = c.loop-other.other-items in
+    let i = c.loop-other.other-index in
+    let p = get_or ps i c.other-item.result in
+    let p' = c.share.new.from in
+    let many = c.loop-other.auto.other-items in
+    let at : slice_get ps i ≡ Some p = slice_get-get_or ps i c.other-item.result (omega arith) in
+    let next : suc i + 1 ≡ suc (i + 1) = omega arith in record {
+      own = own_both m c.args.of.now f f' ps i p p' at c.share.ensures.to c.share.ensures.from v.own;
+      keeps = keep_trans m (c.args.first.now ∷ c.args.others.now) (f ∷ ps) (f' ∷ set ps i p') v.keeps (gather_keeps m f f' ps i p p' at c.share.ensures.shared);
+      gathered = λ k. subst (λ n. Gathered (map seen_by (views m k (c.args.first.now ∷ c.args.others.now))) n (map seen_by (views m k (f' ∷ set ps i p')))) next
+          (gathers (map seen_by (views m k (c.args.first.now ∷ c.args.others.now))) (suc i) (map seen_by (views m k (f ∷ ps))) (map seen_by (views m k (f' ∷ set ps i p'))) (omega arith) (v.gathered k) (gather_shares m f f' ps i p p' at c.share.ensures.shared k));
+    }
+
+pub returns-clause-gathered : goal.returns-clause-gathered
+returns-clause-gathered g c = let m = g.P.Share.meaning in
+    let test = c.loop-other-test.false in
+    let most = c.loop-other.auto.other-index-end in
+    let many = c.loop-other.auto.other-items in
+    let all : suc c.loop-other.other-index ≡ suc (length c.loop-other.other-items) = omega arith in
+    λ k. subst (λ n. Gathered (map seen_by (views m k (c.args.first.now ∷ c.args.others.now))) n (map seen_by (views m k (c.loop-other.first ∷ c.loop-other.other-items)))) all (c.loop-other.invariant.gathered k)

@@ -1,27 +1,53 @@
-use Rattle.std.proofs.Common.{rules, refl, sym, ◌∙◌, arith}
+use Rattle.std.proofs.Common.{◌≡◌, suc, ◌∷◌, ◌+◌, length, get_or, map, set, subst, arith}
+use Rattle.std.specs.Prelude.{slice_get, Some}
+use Rattle.std.proofs.lemmas.Option.{slice_get-get_or}
 use Rattle.level.specs.Leveling.{seen_by}
-use Rattle.level.proofs.Lists.{length_map}
-use Rattle.level.proofs.Sharing.{keeps_refl, keeps_trans}
-use Rattle.level.proofs.Levels.{spreads, spread_start}
-use Rattle.turn_cell.specs.Calls.{view_of}
+use Rattle.level.specs.Meanings.{views}
+use Rattle.level.specs.Gathering.{Spread}
+use Rattle.level.proofs.Lists.{All-head, All-get, All-tail}
+use Rattle.level.proofs.Sharing.{keep_refl, keep_trans, own_both, spread_keeps, spread_shares}
+use Rattle.level.proofs.Levels.{spreads, all_told_start}
 use Rattle.level.proofs.level.spread.Goals as goal
 
-pub loop-i-init : goal.loop-i-init
-loop-i-init g c = record {
-  one = omega arith;
-  end = search rules;
-  count = refl;
+pub loop-other-init : goal.loop-other-init
+loop-other-init g c = let m = g.P.Share.meaning in record {
   own = c.requires.own;
-  keeps = keeps_refl _;
-  spread = spread_start _ _ (length_map seen_by _ ∙ length_map view_of c.args.passes.now.items) c.requires.gathered;
+  keeps = keep_refl m (c.args.first.now ∷ c.args.others.now);
+  told = all_told_start m (c.args.first.now ∷ c.args.others.now);
 }
 
-pub loop-i-preserved : goal.loop-i-preserved
-loop-i-preserved g c = let v = c.loop-i.invariant in record {
-  one = omega arith;
-  end = v.end ∙ sym c.share.ensures.count;
-  count = c.share.ensures.count ∙ v.count;
-  own = c.share.ensures.own;
-  keeps = keeps_trans _ _ _ v.keeps c.share.ensures.keeps;
-  spread = spreads c.loop-i.i _ _ v.one v.spread c.share.ensures.shares;
-}
+pub share-requires-clause-to : goal.share-requires-clause-to
+share-requires-clause-to g c = let m = g.P.Share.meaning in let v = c.loop-other.invariant in
+    let lt = c.loop-other-test.true in
+    let many = c.loop-other.auto.other-items in
+    let at = slice_get-get_or c.loop-other.other-items c.loop-other.other-index c.other-item.result (omega arith) in
+    All-get (m.is_of c.args.of.now) _ _ _ at (All-tail (m.is_of c.args.of.now) _ _ v.own)
+
+pub share-requires-clause-from : goal.share-requires-clause-from
+share-requires-clause-from g c = All-head (g.P.Share.meaning.is_of c.args.of.now) _ _ c.loop-other.invariant.own
+
+pub loop-other-preserved : goal.loop-other-preserved
+loop-other-preserved g c = let m = g.P.Share.meaning in let v = c.loop-other.invariant in
+    let lt = c.loop-other-test.true in
+    let f = c.loop-other.first in
+    let f' = c.share.new.from in
+    let ps = c.loop-other.other-items in
+    let i = c.loop-other.other-index in
+    let p = get_or ps i c.other-item.result in
+    let p' = c.share.new.to in
+    let many = c.loop-other.auto.other-items in
+    let at : slice_get ps i ≡ Some p = slice_get-get_or ps i c.other-item.result (omega arith) in
+    let next : suc i + 1 ≡ suc (i + 1) = omega arith in record {
+      own = own_both m c.args.of.now f f' ps i p p' at c.share.ensures.from c.share.ensures.to v.own;
+      keeps = keep_trans m (c.args.first.now ∷ c.args.others.now) (f ∷ ps) (f' ∷ set ps i p') v.keeps (spread_keeps m f f' ps i p p' at c.share.ensures.shared);
+      told = λ olds gathered k. subst (λ n. Spread (map seen_by (views m k olds)) n (map seen_by (views m k (f' ∷ set ps i p')))) next
+          (spreads (map seen_by (views m k olds)) (suc i) (map seen_by (views m k (f ∷ ps))) (map seen_by (views m k (f' ∷ set ps i p'))) (omega arith) (v.told olds gathered k) (spread_shares m f f' ps i p p' at c.share.ensures.shared k));
+    }
+
+pub returns-clause-told : goal.returns-clause-told
+returns-clause-told g c = let m = g.P.Share.meaning in
+    let test = c.loop-other-test.false in
+    let most = c.loop-other.auto.other-index-end in
+    let many = c.loop-other.auto.other-items in
+    let all : suc c.loop-other.other-index ≡ suc (length c.loop-other.other-items) = omega arith in
+    λ olds gathered k. subst (λ n. Spread (map seen_by (views m k olds)) n (map seen_by (views m k (c.loop-other.first ∷ c.loop-other.other-items)))) all (c.loop-other.invariant.told olds gathered k)

@@ -9,9 +9,9 @@ pub returns-clause-own : goal.returns-clause-own
 returns-clause-own g c = let w : MgrView = record { stripes = views_of c.call.new.pass; numbers = view_of c.args.pass.now.numbers } in record {
   stripes = c.call.ensures.own;
   numbers = c.requires.own.numbers;
-  lawful = called_lawful g.T.Load.tag c.args.call c.a_legal_reply_is_in_kind.ensures c.args.stripe c.requires.stripe c.requires.may (mgr_view c.args.pass.now) w refl (named_views c.args.pass.now.stripes.passes.items c.requires.own.stripes.names) c.requires.own.lawful c.call.result c.call.ensures.step;
+  lawful = called_lawful g.T.Load.tag c.args.call c.legal_names_own_openings.ensures c.args.stripe c.requires.stripe c.requires.may (mgr_view c.args.pass.now) w refl (named_views c.args.pass.now.stripes.passes.items c.requires.own.stripes.names) c.requires.own.lawful c.call.result c.call.ensures.step;
 }
 
 pub returns-clause-step : goal.returns-clause-step
 returns-clause-step g c = let w : MgrView = record { stripes = views_of c.call.new.pass; numbers = view_of c.args.pass.now.numbers } in
-    called g.T.Load.tag c.args.call c.a_legal_reply_is_in_kind.ensures c.args.stripe c.requires.stripe c.requires.may (mgr_view c.args.pass.now) w refl (named_views c.args.pass.now.stripes.passes.items c.requires.own.stripes.names) c.call.result c.call.ensures.step
+    called g.T.Load.tag c.args.call c.legal_names_own_openings.ensures c.args.stripe c.requires.stripe c.requires.may (mgr_view c.args.pass.now) w refl (named_views c.args.pass.now.stripes.passes.items c.requires.own.stripes.names) c.call.result c.call.ensures.step

@@ -4,7 +4,7 @@ use Rattle.turn_cell.specs.Classes.{AreClasses}
 use Rattle.turn_cell.specs.View.{Fits}
 use Rattle.turn_cell.proofs.Classes.{append_full}
 use Rattle.ready_queue.proofs.Keeps.{merges, learns}
-use Rattle.ready_queue.proofs.Told.{is_joined}
+use Rattle.ready_queue.specs.Calls.{untold}
 use Rattle.ready_queue.proofs.queue.ReadyQueue.join.Goals as goal
 
 pub absorb-requires-clause-rule : goal.absorb-requires-clause-rule
@@ -18,4 +18,4 @@ invariant_of-pass c = let e = c.learn_as.ensures.queue.1 ∙ c.absorb.ensures.ru
 
 pub returns-clause-joined : goal.returns-clause-joined
 returns-clause-joined c = let e = c.absorb.ensures.rule in let told = c.learn_as.ensures.rule.1 in
-    is_joined (view c.args.pass.now.seat) (view c.args.other.seat) _ (subst (λ v. AreClasses v.classes) e told.are) (subst (λ v. Fits v.told) e told.fits) (c.learn_as.ensures.queue.1 ∙ e)
+    c.joined_views_are_a_join.ensures (untold (view c.args.pass.now.seat)) (untold (view c.args.other.seat)) _ (subst (λ v. AreClasses v.classes) e told.are) (subst (λ v. Fits v.told) e told.fits) (ap untold (c.learn_as.ensures.queue.1 ∙ e))

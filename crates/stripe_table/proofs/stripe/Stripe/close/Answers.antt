@@ -32,5 +32,8 @@ returns g c past r = let st = c.args.self.now in let o = c.args.o in let t = c.i
     let ascend = ascends_flags st.flags (subst (Ascends flag_number) (sym r.table.unasked) r.ordered.flags_ascend) in
     let flags : c.shut_all.new.flags ≡ Firing.settle_all Firing.shut_state t.1.waits st.flags = c.shut_all.ensures.flags ascend ∙ ap (λ l. Firing.settle_all Firing.shut_state l st.flags) waits in
     let list : map (shut_key g.T.Load.tag) c.shut_all.result ≡ shut_of f o = ap (map (shut_key g.T.Load.tag)) (c.shut_all.ensures.list ∙ ap (map Firing.shut_as) waits) ∙ list_is g.T.Load.tag st.stripe f o t.1 fit r.ordered in
-    let shows = shut_shows g.T.Load.tag st _ f o c.in-Some.place t.1 r t.2 t.3 fd refl refl (ap (set st.descriptors.items c.in-Some.place) c.take.ensures.after) flags in
+    let shows = shut_shows g.T.Load.tag st _ f o c.in-Some.place t.1 r t.2 t.3 fd refl refl (ap (set st.descriptors.items c.in-Some.place) c.take.ensures.after) flags c.remove_all.ensures in
     stepped g.T.Load.tag past st r _ _ (shut f o (shut_of f o)) (right_shut st.stripe st.first past o (map (shut_key g.T.Load.tag) c.shut_all.result) list (live g.T.Load.tag past st r o t.1 fit)) refl refl (ap (shut f o) list) shows
+
+pub remove_all-requires : goal.remove_all-requires
+remove_all-requires g c = let st = c.args.self.now in let t = c.in-Some.ensures.there in let le = slice_get_within st.descriptors.items c.in-Some.place (Some t.1) t.2 in let many = c.requires.fits.1.table.many in omega arith

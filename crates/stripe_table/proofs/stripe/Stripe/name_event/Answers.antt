@@ -24,7 +24,7 @@ returns-then-not-name-clause-shows g c f r = let st = c.args.self.now in let t =
     let read = slice_get_read st.descriptors.items _ c.args.place c.index_mut.result.now refl le c.index_mut.ensures.value in
     let same = same_Some t.0 c.in-Some.descriptor (same_Some _ _ (sym t.1 ∙ read) ∙ c.in-Some.is) in
     unnamed_shows g.T.Load.tag st c.args.o c.args.place t.0 t.1 t.2 c.requires.of f r _ c.name.new.self c.next_number-number.result (ap (λ d. is_some (dirs_to_name d)) same ∙ (sym c.name.ensures.named ∙ c.if-not-name.true))
-    (c.name.ensures.kept ∙ ap (λ d. named d c.next_number-number.result) (sym same)) refl refl refl refl
+    (c.name.ensures.kept ∙ ap (λ d. named d c.next_number-number.result) (sym same)) refl refl refl refl refl
 
 pub returns-clause-event : goal.returns-clause-event
 returns-clause-event g c f r = let st = c.args.self.now in let t = c.requires.there in let le = slice_get_within st.descriptors.items c.args.place (Some t.0) t.1 in
@@ -37,4 +37,4 @@ returns-clause-shows g c f r = let st = c.args.self.now in let t = c.requires.th
     let read = slice_get_read st.descriptors.items _ c.args.place c.index_mut.result.now refl le c.index_mut.ensures.value in
     let same = same_Some t.0 c.in-Some.descriptor (same_Some _ _ (sym t.1 ∙ read) ∙ c.in-Some.is) in
     named_shows g.T.Load.tag st c.args.o c.args.place t.0 t.1 t.2 c.requires.of f r _ c.name.new.self c.next_number-number.result c.named.result (ap (λ d. is_some (dirs_to_name d)) same ∙ (sym c.name.ensures.named ∙ c.if-not-name.false))
-    (c.name.ensures.kept ∙ ap (λ d. named d c.next_number-number.result) (sym same)) c.named.ensures refl refl refl refl
+    (c.name.ensures.kept ∙ ap (λ d. named d c.next_number-number.result) (sym same)) c.named.ensures refl refl refl refl refl

@@ -32,4 +32,4 @@ returns g c past r = let st = c.args.self.now in let fd = c.args.fd in let many 
     let own = subst (λ (n : ℕ). owner_of past n ≡ None) (sym here) (r.table.each (fd / 32) None at).owner in
     stepped g.T.Load.tag past st r _ _ (made (facts_of st.stripe st.first past) fd (opening c.next_number-number.result fd))
     (right_opened st.stripe st.first past fd c.next_number-number.result (n_is ∙ omega arith) own (not_spent g.T.Load.tag past st r c.if-self-ge-LAST_COUNT.false)) refl refl refl
-    (made_shows g.T.Load.tag st _ (facts_of st.stripe st.first past) fd (fd / 32) c.next_number-number.result c.new.result r at here low of n_is c.new.ensures refl refl refl refl)
+    (made_shows g.T.Load.tag st _ (facts_of st.stripe st.first past) fd (fd / 32) c.next_number-number.result c.new.result r at here low of n_is c.new.ensures refl refl refl refl refl)

@@ -56,10 +56,13 @@ returns-clause-step g c past r = let st = c.args.self.now in let o = c.args.o in
     let kept = c.register.ensures ∙ ap (λ d. Kept.registered d c.next_number-key.result c.args.dir c.args.mark c.args.load) same in
     let free = sym (c.is_crowded.ensures t.1 t.2) ∙ c.if-is_crowded.false in
     let shows = registered_shows g.T.Load.tag st _ f o c.in-Some.place c.next_number-key.result t.1 c.register.new.self c.args.dir c.args.mark c.args.load r t.2 t.3 fd n_is
-    (room_left c.args.load (length t.1.waits + t.1.fired) (length st.flags) free) (flag_room c.args.load (length t.1.waits + t.1.fired) (length st.flags) free) kept refl refl refl c.begin.ensures in
+    (room_left c.args.load (length t.1.waits + t.1.fired) (length st.flags) free) (flag_room c.args.load (length t.1.waits + t.1.fired) (length st.flags) free) kept refl refl refl c.begin.ensures c.add.ensures.kept c.add.ensures.here in
     stepped g.T.Load.tag past st r c.name_event-event.new.self _ (with_event (registered f o c.args.dir c.args.mark (kind_of g.T.Load.tag c.args.load) (record { number = 32 * f.count + st.stripe })) c.name_event-event.result)
     (right_waits st.stripe st.first past o c.args.dir c.args.mark (kind_of g.T.Load.tag c.args.load) c.next_number-key.result c.name_event-event.result (n_is ∙ omega arith) (live g.T.Load.tag past st r o t.1 fit)
     (crowded_is g.T.Load.tag st.stripe st.first past o t.1 fit c.args.load st.flags r.table.unasked ∙ free) (not_spent g.T.Load.tag past st r c.if-self-ge-LAST_COUNT.false) (c.name_event-event.ensures.event _ shows))
     c.name_event-event.ensures.name.0 c.name_event-event.ensures.name.1
     (ap (λ n. facts_of st.stripe st.first (Register o c.args.dir c.args.mark (kind_of g.T.Load.tag c.args.load) (Registers.Waits (record { number = n }) c.name_event-event.result) ∷ past)) (n_is ∙ omega arith) ∙ facts_registered st.stripe st.first past o c.args.dir c.args.mark (kind_of g.T.Load.tag c.args.load) c.name_event-event.result)
     (c.name_event-event.ensures.shows _ shows)
+
+pub add-requires : goal.add-requires
+add-requires g c = let st = c.args.self.now in let t = c.in-Some.ensures.there in let le = slice_get_within st.descriptors.items c.in-Some.place (Some t.1) t.2 in let many = c.requires.fits.1.table.many in omega arith

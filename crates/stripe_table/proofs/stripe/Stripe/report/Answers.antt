@@ -39,7 +39,7 @@ returns g c past r = let st = c.args.self.now in let o = c.args.o in let t = c.i
     let fit = fits_here g.T.Load.tag st f o c.in-Some.place t.1 r t.2 t.3 fd in
     let same = same_Some c.in-Some-index_mut.descriptor t.1 (sym c.in-Some-index_mut.is ∙ read_is st.descriptors.items c.in-Some.place t.1 c.index_mut.result.now t.2 c.index_mut.ensures.value) in
     let kept = c.note.ensures ∙ ap (λ d. Kept.noted d c.args.dirs c.next_number-number.result) same ∙ ap (Kept.noted t.1 c.args.dirs) c.next_number-number.ensures in
-    let shows = noted_shows g.T.Load.tag st.stripe st _ f o c.in-Some.place t.1 c.note.new.self c.args.dirs refl r t.2 t.3 fd kept refl refl refl refl in
+    let shows = noted_shows g.T.Load.tag st.stripe st _ f o c.in-Some.place t.1 c.note.new.self c.args.dirs refl r t.2 t.3 fd kept refl refl refl refl refl in
     stepped g.T.Load.tag past st r c.name_event.new.self _ (with_event (noted st.stripe f o c.args.dirs) c.name_event.result)
     (right_noted g.T.Load.tag st.stripe st.first past o c.args.dirs c.name_event.result (live g.T.Load.tag past st r o t.1 fit) (not_spent g.T.Load.tag past st r c.if-self-ge-LAST_COUNT.false) (c.name_event.ensures.event (noted st.stripe f o c.args.dirs) shows))
     c.name_event.ensures.name.0 c.name_event.ensures.name.1 (facts_noted g.T.Load.tag st.stripe st.first past o c.args.dirs c.name_event.result) (c.name_event.ensures.shows (noted st.stripe f o c.args.dirs) shows)

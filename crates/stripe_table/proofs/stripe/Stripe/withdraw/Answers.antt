@@ -15,7 +15,7 @@ use Rattle.stripe_table.proofs.Withdraws.{right_gone, right_back, withdrawn_show
 use Rattle.stripe_table.proofs.stripe.Stripe.withdraw.Goals as goal
 
 pub returns-in_default : goal.returns-in_default
-returns-in_default g c past r = let st = c.args.self.now in unchanged g.T.Load.tag past st r _ (right_gone g.T.Load.tag st past r c.args.key c.in_default.ensures.absent) refl
+returns-in_default g c past r = let st = c.args.self.now in unchanged g.T.Load.tag past st r _ (right_gone g.T.Load.tag st past r c.args.key (c.in_default.ensures.absent r.index)) refl
 
 pub index_mut-requires : goal.index_mut-requires
 index_mut-requires g c = let st = c.args.self.now in let t = c.in-Some.ensures.there in let le = slice_get_within st.descriptors.items c.in-Some.place (Some t.0) t.1 in let ok = st.descriptors.ok.0 in omega arith
@@ -41,4 +41,10 @@ returns g c past r = let st = c.args.self.now in let t = c.in-Some.ensures.there
     let f = facts_of st.stripe st.first past in
     stepped g.T.Load.tag past st r _ _ (withdrawn f key (kind_of g.T.Load.tag q.load)) (right_back g.T.Load.tag st past r key c.in-Some.place t.0 q c.into_job.result t.1 there.0 q_is c.into_job.ensures) refl refl
     (ap (withdrawn f key) (ap (kind_of_job g.T.Load.tag) c.into_job.ensures ∙ kind_back g.T.Load.tag q.load))
-    (withdrawn_shows g.T.Load.tag st _ f c.in-Some.place t.0 c.take_key-taken.new.self key q r t.1 there.0 q_is left refl refl refl (c.end.ensures ascend))
+    (withdrawn_shows g.T.Load.tag st _ f c.in-Some.place t.0 c.take_key-taken.new.self key q r t.1 there.0 q_is left refl refl refl (c.end.ensures ascend) c.take_out.ensures.others c.take_out.ensures.here)
+
+pub holder_of-requires : goal.holder_of-requires
+holder_of-requires g c = c.requires.1.table.many
+
+pub take_out-requires : goal.take_out-requires
+take_out-requires g c = let st = c.args.self.now in let t = c.in-Some.ensures.there in let le = slice_get_within st.descriptors.items c.in-Some.place (Some t.0) t.1 in let many = c.requires.1.table.many in omega arith

@@ -1,0 +1,77 @@
+#!/usr/bin/env python3
+"""Measures what calls of the event manager cost, from outside the program that makes them.
+
+    python3 bench/events/measure.py [PROGRAM]
+
+PROGRAM is a built `event_bench`; without it, crates/event_bench/out/event_bench. Each figure is the least of
+several runs, less the least of as many runs without rounds, by the rounds of one thread. `processor` is the time
+that all threads took together by the rounds of all of them, `wall` the time that passed by the rounds of one.
+"""
+import os
+import resource
+import subprocess
+import sys
+import time
+
+HERE = os.path.dirname(os.path.abspath(__file__))
+BUILT = os.path.join(HERE, "..", "..", "crates", "event_bench", "out", "event_bench")
+# What a round is, and how many calls it makes.
+CALLS = {"report": 1, "register": 2, "dispatch": 2, "cycle": 3}
+SIZES = (8, 400)
+THREADS = (1, 2, 4)
+ROUNDS = 400_000
+REPEATS = 5
+# No run may take longer than this.
+SECONDS = 120
+
+
+def one_run(program, what, size, threads, rounds):
+    """Wall and processor seconds of one run, which must make all its rounds."""
+    before = resource.getrusage(resource.RUSAGE_CHILDREN)
+    start = time.monotonic()
+    words = [program, what, str(size), str(threads), str(rounds)]
+    made = subprocess.run(words, capture_output=True, text=True, timeout=SECONDS, check=True).stdout
+    wall = time.monotonic() - start
+    after = resource.getrusage(resource.RUSAGE_CHILDREN)
+    if made != f"{threads * rounds} rounds\n":
+        sys.exit(f"{' '.join(words)}: {made!r}")
+    return wall, after.ru_utime + after.ru_stime - before.ru_utime - before.ru_stime
+
+
+def least(program, what, size, threads, rounds):
+    runs = [one_run(program, what, size, threads, rounds) for _ in range(REPEATS)]
+    return min(wall for wall, _ in runs), min(spent for _, spent in runs)
+
+
+def cost(program, what, size, threads):
+    """Nanoseconds of a round: as time passes for one thread, and of a processor."""
+    full = least(program, what, size, threads, ROUNDS)
+    empty = least(program, what, size, threads, 0)
+    return (
+        (full[0] - empty[0]) * 1e9 / ROUNDS,
+        (full[1] - empty[1]) * 1e9 / (ROUNDS * threads),
+    )
+
+
+def main():
+    program = sys.argv[1] if len(sys.argv) > 1 else BUILT
+    costs = {}
+    for what in CALLS:
+        for size in SIZES:
+            for threads in THREADS:
+                costs[what, size, threads] = cost(program, what, size, threads)
+    print(f"{'round':9} {'calls':>5} {'job':>4} {'threads':>7} {'wall ns':>8} {'processor ns':>12} {'wall':>6} {'processor':>9}")
+    for (what, size, threads), (wall, spent) in costs.items():
+        one_wall, one_spent = costs[what, size, 1]
+        print(
+            f"{what:9} {CALLS[what]:5} {size:4} {threads:7} {wall:8.0f} {spent:12.0f}"
+            f" {wall / one_wall:6.2f} {spent / one_spent:9.2f}"
+        )
+    print()
+    for what in CALLS:
+        ratio = costs[what, 400, 1][1] / costs[what, 8, 1][1]
+        print(f"{what}: a job of 400 bytes costs {ratio:.2f} times one of 8")
+
+
+if __name__ == "__main__":
+    main()

@@ -1,0 +1,5 @@
+pub mod Acquires
+pub mod Entries
+pub mod Pasts
+pub mod Reaping
+pub mod Replies

@@ -1,0 +1,7 @@
+pub mod Acquired
+pub mod Calls
+pub mod History
+pub mod Idle
+pub mod Represents
+pub mod Shelf
+pub mod Shared

@@ -1,5 +1,0 @@
-use Rattle.std.proofs.Common.{length}
-use Rattle.stripe_table.proofs.tests.ran_text.Given as goal
-
-abbrev pub decreases-loop-fired : goal.decreases-loop-fired
-decreases-loop-fired l = length l.list

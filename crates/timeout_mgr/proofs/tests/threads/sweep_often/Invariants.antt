@@ -1,0 +1,5 @@
+use Rattle.timeout_mgr.specs.Calls.{IsOf}
+use Rattle.timeout_mgr.proofs.tests.threads.sweep_often.Given as goal
+
+abbrev pub invariant-loop : goal.invariant-loop
+invariant-loop l = IsOf l.times l.sweeper.pass

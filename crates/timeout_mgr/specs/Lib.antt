@@ -1,0 +1,9 @@
+pub mod Word
+pub mod Watches
+pub mod Shown
+pub mod Passes
+pub mod Calls
+pub mod Promises
+pub mod Rule
+pub mod Plays
+pub mod OneSlot
