@@ -263,9 +263,14 @@ can_send moves response old mid d = (d.a, d.behind, d.seen, d.left, ap (λ (c : 
 pub way_kept : (moves : Moves) (response : Response) (old mid : Standing) → Decides moves response old mid → HasWay old → HasWay mid
 way_kept moves response old mid d way =
     let at : ready way.0 way.1 way.2 way.3 ≡ ready d.a d.behind d.seen d.path = sym way.4 ∙ d.was in
-    let a : way.0 ≡ d.a = ready_asked way.0 d.a way.1 d.behind way.2 d.seen way.3 d.path at in
-    (d.a, d.behind, d.seen, d.left, ap (λ (c : Standing). c.stage) d.same,
-    omega (arith, way.5, ap (λ (v : Asked). length v.target) a, ap (λ (c : Standing). length c.pending) d.same))
+    let a : way.0 ≡ d.a = ready_asked way.0 d.a way.1 d.behind way.2 d.seen way.3 d.path at in (
+      d.a,
+      d.behind,
+      d.seen,
+      d.left,
+      ap (λ (c : Standing). c.stage) d.same,
+      omega (arith, way.5, ap (λ (v : Asked). length v.target) a, ap (λ (c : Standing). length c.pending) d.same),
+    )
 
 pub to_go_left : (moves : Moves) (response : Response) (old mid : Standing) → Decides moves response old mid → to_go mid ≡ to_go old
 to_go_left moves response old mid d = ap (λ (c : Standing). to_go c) d.same ∙ ap (λ (st : Stage). old.left * (2 * body_steps) + steps_left st old.input) (sym d.was)

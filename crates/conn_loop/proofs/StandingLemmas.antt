@@ -52,11 +52,14 @@ lies_take (refusing code) given input ahead piece x = (x.0, λ t. ap (λ (v : Li
 lies_take (ready a behind seen path) given input ahead piece x = (x.0, ready_take a behind input ahead piece x.1)
 lies_take (wanting a behind seen path) given input ahead piece x = (x.0, ready_take a behind input ahead piece x.1)
 lies_take (sending at size) given input ahead piece x = (x.0, ap (λ (v : List ℕ). v ++ piece) x.1)
-lies_take (unmade end) given input ahead piece x = (x.0, record {
-  a = x.1.a;
-  len = x.1.len;
-  is_whole = λ t. ap (λ (v : List ℕ). turn_of v) (append_assoc ahead piece t) ∙ x.1.is_whole (piece ++ t);
-})
+lies_take (unmade end) given input ahead piece x = (
+  x.0,
+  record {
+    a = x.1.a;
+    len = x.1.len;
+    is_whole = λ t. ap (λ (v : List ℕ). turn_of v) (append_assoc ahead piece t) ∙ x.1.is_whole (piece ++ t);
+  },
+)
 lies_take (broken at) given input ahead piece x = (x.0, ap (λ (v : List ℕ). v ++ piece) x.1)
 lies_take finished given input ahead piece x = tt
 
@@ -336,8 +339,14 @@ accounts_refuse serving c d t s k m code some at stage input none moments due x 
           ∙ ap (λ (v : List ℕ). (s ++ due_of serving d) ++ v) (sym (left_none serving x.given d.left (x.ahead ++ after) ks none));
       counted = λ after.
           x.counted after ∙ ap (λ (n : ℕ). length c.moments + finals_within n (x.ahead ++ after)) some
-          ∙ omega (arith, finals_refused k (x.ahead ++ after) code (grows after), finals_done 0 (x.ahead ++ after) refl, finals_done d.left (x.ahead ++ after) none,
-          ap (λ (v : List ℕ). length v) moments, length-append c.moments (m ∷ []));
+          ∙ omega (
+            arith,
+            finals_refused k (x.ahead ++ after) code (grows after),
+            finals_done 0 (x.ahead ++ after) refl,
+            finals_done d.left (x.ahead ++ after) none,
+            ap (λ (v : List ℕ). length v) moments,
+            length-append c.moments (m ∷ []),
+          );
       closing = λ after. x.closing after ∙ ap (λ (n : ℕ). closed_within n (x.ahead ++ after)) some ∙ closed_refused k (x.ahead ++ after) code (grows after)
           ∙ ap (λ (n : ℕ). closed_within n (x.ahead ++ after)) (sym none);
       resting = λ after. x.resting after ∙ ap (λ (n : ℕ). rest_within n (x.ahead ++ after)) some ∙ rest_refused k (x.ahead ++ after) code (grows after)
@@ -373,8 +382,14 @@ accounts_respond serving c d t s k m a behind some x given lies counted moments 
           ∙ ap (λ (n : ℕ). (s ++ due_of serving d) ++ answers_within (replies serving) n (drop len x.ahead ++ after) ks) (sym counted);
       counted = λ after.
           x.counted after ∙ ap (λ (n : ℕ). length c.moments + finals_within n (x.ahead ++ after)) some
-          ∙ omega (arith, finals_whole k (x.ahead ++ after) a len (grows after), ap (λ (v : List ℕ). finals_within left v) (beyond after),
-          ap (λ (n : ℕ). finals_within n (drop len x.ahead ++ after)) counted, ap (λ (v : List ℕ). length v) moments, length-append c.moments (m ∷ []));
+          ∙ omega (
+            arith,
+            finals_whole k (x.ahead ++ after) a len (grows after),
+            ap (λ (v : List ℕ). finals_within left v) (beyond after),
+            ap (λ (n : ℕ). finals_within n (drop len x.ahead ++ after)) counted,
+            ap (λ (v : List ℕ). length v) moments,
+            length-append c.moments (m ∷ []),
+          );
       closing = λ after.
           x.closing after ∙ ap (λ (n : ℕ). closed_within n (x.ahead ++ after)) some ∙ closed_whole k (x.ahead ++ after) a len (grows after)
           ∙ ap (λ (v : List ℕ). closed_within left v) (beyond after) ∙ ap (λ (n : ℕ). closed_within n (drop len x.ahead ++ after)) (sym counted);

@@ -164,7 +164,10 @@ fn widen(room: &mut Vec<u8>, long: usize)
     ensures bounded { ROOM ≤ vec_capacity room.new }
 {
     let wanted = if long <= FIRST_ROOM { FIRST_ROOM } else { ROOM };
-    if room.extend_from_slice(&EMPTY[..wanted - room.len()]).is_err() {
+    if room
+        .extend_from_slice(&EMPTY[..wanted - room.len()])
+        .is_err()
+    {
         unreachable!()
     }
 }
@@ -197,7 +200,12 @@ fn write_at(room: &mut [u8], at: usize, piece: &[u8])
 }
 
 /// Reads from the link behind the bytes from `start` to `end`. The result is where these start afterwards.
-fn read_behind<L: Link>(link: &mut L, room: &mut Vec<u8>, start: usize, end: usize) -> (usize, ReadOut)
+fn read_behind<L: Link>(
+    link: &mut L,
+    room: &mut Vec<u8>,
+    start: usize,
+    end: usize,
+) -> (usize, ReadOut)
     requires order { start ≤ end }
     requires inside { end ≤ vec_len room.old }
     requires fits { (end - start) < ROOM }

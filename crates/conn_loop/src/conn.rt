@@ -60,7 +60,7 @@ impl<F: Files> Model for Conn<F> {
     } };
 
     ghost invariant = { λ a. (vec_len a.moments + a.left ≤ 1000) × (1000 ≤ vec_capacity a.moments)
-      × IsKept a.input a.left a.phase × HasLease a.phase (option_map (λ lease. lease.size) a.lease) };
+        × IsKept a.input a.left a.phase × HasLease a.phase (option_map (λ lease. lease.size) a.lease) };
 }
 
 impl<F: Files> Conn<F> {

@@ -1,23 +1,32 @@
 -- What a run of steps leaves, step by step.
 use Rattle.std.proofs.Common.{◌≡◌, ◌≢◌, ℕ, ◌≤◌, List, [], ◌∷◌, ◌++◌, Option, Some, None, option_map, refl, sym, ap, ◌∙◌, subst, arith, inl, inr, append-nil, append_assoc}
-use Rattle.std.specs.Prelude.{◌⊎◌, IfNone}
+use Rattle.std.specs.Prelude.{◌⊎◌, IfNone, IfSome}
 use Rattle.outside.specs.Causes.{KeepsLink, LinkTold}
 use Rattle.outside.specs.Counts.{Counts, Rises}
-use Rattle.outside.specs.FileCauses.{FilesTold}
+use Rattle.outside.specs.FileCauses.{FilesTold, Looked, looked_after}
+use Rattle.outside.specs.Folder.{Folder}
+use Rattle.outside.specs.declared.files.Files.{Ghosts}
+use Rattle.outside.specs.declared.files.FindOut.{FindOut}
+use Rattle.outside.specs.declared.files.FindOut.TheVariants as Finds
+use Rattle.fd_cache.specs.Acquired.{found_of}
+use Rattle.fd_cache.specs.declared.lease.Lease.{Lease}
+use Rattle.conn_loop.specs.Supplies.{Holds}
+use Rattle.conn_loop.specs.declared.supply.Supply.{Supply}
+use Rattle.conn_loop.specs.declared.supply.Supply.TheVariants as supply
 use Rattle.app_trait.specs.Below.{LiesBelow, StaysBelow}
 use Rattle.app_trait.specs.FolderMoves.{folder_move}
 use Rattle.app_trait.specs.Moves.{AppMove, RequestText, look_at}
 use Rattle.app_trait.specs.declared.request.Seen.{Seen}
 use Rattle.conn_loop.specs.Causes.{CountsWaits, HasFault, IsCaused, Keeps}
 use Rattle.conn_loop.specs.Replying.{request_of}
-use Rattle.conn_loop.specs.Stages.{Stage, unread, short, reading, refusing, ready, wanting, sending, unmade, broken, finished, failing, FailsBy}
+use Rattle.conn_loop.specs.Stages.{Stage, unread, short, reading, refusing, ready, wanting, sending, unmade, broken, finished, failing}
 use Rattle.conn_loop.specs.Standing.{AsksFor, IsAskingStage, Standing, path_asked_at}
 use Rattle.conn_loop.specs.declared.step.Step.{Step}
 use Rattle.conn_loop.specs.declared.step.Step.TheVariants.{WantRead, WantWrite, WantFile, Done}
 use Rattle.conn_loop.specs.declared.step.End.{End as Finish}
 use Rattle.conn_loop.specs.declared.step.End.TheVariants as End
 use Rattle.warp_commands.specs.Causes.{AreBelow, LooksBelow}
-use Rattle.warp_commands.specs.Steps.{Brings, FailsSince, FaultSince, FilesKept, MayLook}
+use Rattle.warp_commands.specs.Steps.{Brings, FailsSince, FaultSince, FilesKept, MayLook, fails_by}
 
 -- ---- paths
 
@@ -168,3 +177,56 @@ goes_supplied d e c k l m f g h i x waits keeps runs kept fails = record {
   of_link = keeps_then k l m x.of_link keeps.of_link;
   of_files = files_then f h i (files_then f g h x.of_files (files_read l m g h keeps)) kept;
 }
+
+-- ---- what an acquire answers
+
+may_none : (path : List ℕ) (f g : FilesTold) → g ≡ f → MayLook path None f g
+may_none path f g same = record {
+  later = subst (λ (v : FilesTold). f.faults ≤ v.faults) (sym same) (omega arith);
+  rooted = ap (λ (v : FilesTold). v.rooted) same;
+  firm = ap (λ (v : FilesTold). v.firm) same;
+  looked = inl (ap (λ (v : FilesTold). v.looked) same);
+  failed = tt;
+}
+
+may_looked : {X : Type 0} (result : FindOut X) (path : List ℕ) (fails : Option Finish) (f g : FilesTold) → Looked result path f g → f.faults ≤ g.faults
+    → (looked_after result path f.looked ≡ f.looked) ⊎ (looked_after result path f.looked ≡ option_map (λ paths. paths ++ path ∷ []) f.looked)
+    → FailsSince fails f.faults g.faults → MayLook path fails f g
+may_looked result path fails f g x later notes failed = record {
+  later = later;
+  rooted = ap (λ (v : FilesTold). v.rooted) x.same;
+  firm = ap (λ (v : FilesTold). v.firm) x.same;
+  looked = elim notes [ inl same ↦ inl (x.noted ∙ same) | inr more ↦ inr (x.noted ∙ more) ];
+  failed = failed;
+}
+
+module _ {F X : Type 0} {G : Ghosts F X} where
+  pub may_lease : (path : List ℕ) (lease : Lease F X G) (f g : FilesTold) → (g ≡ f) ⊎ Looked (found_of lease) path f g → MayLook path None f g
+  may_lease path lease f g x = elim x [
+    | inl same ↦ may_none path f g same
+    | inr looked ↦ may_looked (found_of lease) path None f g looked looked.faulted (inr refl) tt
+  ]
+
+pub may_absent : {X : Type 0} (path : List ℕ) (f g : FilesTold) → Looked {X = X} Finds.Absent path f g → MayLook path None f g
+may_absent {X} path f g x = may_looked {X = X} Finds.Absent path None f g x x.faulted (inr refl) tt
+
+pub may_fail : {X : Type 0} (path : List ℕ) (f g : FilesTold) → Looked {X = X} Finds.Failed path f g → MayLook path (Some End.FileFault) f g
+may_fail {X} path f g x = may_looked {X = X} Finds.Failed path (Some End.FileFault) f g x x.faulted.0 (inr refl) x.faulted.1
+
+pub may_short : {X : Type 0} (path : List ℕ) (f g : FilesTold) → (g ≡ f) ⊎ Looked {X = X} Finds.NoMemory path f g → MayLook path (Some End.NoMemory) f g
+may_short {X} path f g x = elim x [
+  | inl same ↦ let none = may_none path f g same in record { later = none.later; rooted = none.rooted; firm = none.firm; looked = none.looked; failed = tt }
+  | inr looked ↦ may_looked {X = X} Finds.NoMemory path (Some End.NoMemory) f g looked looked.faulted (inl refl) tt
+]
+
+-- what was supplied leads to the end that the files' answer names
+pub fails_held : {X : Type 0} (path_of : X → List ℕ) (got : Supply X) (c : Standing) (f g : ℕ) → Holds path_of got c → FailsSince (fails_by got) f g → FailsSince (failing c.stage) f g
+fails_held path_of (supply.Leased lease) c f g x since = subst (λ (o : Option Finish). FailsSince o f g) (sym x.1) since
+fails_held path_of supply.Absent c f g x since = subst (λ (o : Option Finish). FailsSince o f g) (sym x.1) since
+fails_held path_of supply.Failed c f g x since = subst (λ (o : Option Finish). FailsSince o f g) (sym x.1) since
+fails_held path_of supply.NoMemory c f g x since = subst (λ (o : Option Finish). FailsSince o f g) (sym x.1) since
+
+-- what is supplied by a lease that has the path, where the folder is told
+pub leased_there : (folder : Option Folder) (path wanted : List ℕ) → path ≡ wanted → IfSome folder (λ f. path ≡ wanted)
+leased_there None path wanted is = tt
+leased_there (Some f) path wanted is = is

@@ -103,7 +103,15 @@ fn served<L: Link, F: Files, C: Clock>(
     let Ok(mut cache) = Cache::<F>::new(alloc) else {
         return Status::NoMemory;
     };
-    let step = brought_on(alloc, &mut conn, link, files, clock, &mut scratch, &mut cache);
+    let step = brought_on(
+        alloc,
+        &mut conn,
+        link,
+        files,
+        clock,
+        &mut scratch,
+        &mut cache,
+    );
     if let Some(lease) = conn.finish().lease {
         release_own(&mut cache, lease);
     }
@@ -151,12 +159,7 @@ fn give_back<F: Files>(conn: &mut Conn<F>, cache: &mut Cache<F>)
 }
 
 /// Supplies the file that the connection wants.
-fn supply_wanted<F: Files>(
-    alloc: Global,
-    conn: &mut Conn<F>,
-    files: &mut F,
-    cache: &mut Cache<F>,
-)
+fn supply_wanted<F: Files>(alloc: Global, conn: &mut Conn<F>, files: &mut F, cache: &mut Cache<F>)
     requires asking { IsAsking conn.old }
     requires none_spent { conn.old.lease ≡ None }
     requires asks { AsksFor folder_move conn.old.stage }

@@ -85,12 +85,7 @@ impl<F: Files> Conn<F> {
         requires sendable { CanSend response.now self.old.stage }
         ensures { (moment : ℕ) × Responds response.now moment self.old self.new × Gives (moment ∷ []) (C.told clock.old) (C.told clock.new) }
     {
-        let Phase::Ready {
-            head,
-            behind,
-            seen,
-        } = self.phase
-        else {
+        let Phase::Ready { head, behind, seen } = self.phase else {
             unreachable!()
         };
         // What was seen is named for the proof alone.
@@ -98,7 +93,13 @@ impl<F: Files> Conn<F> {
         let moment = clock.now();
         let left = self.left - 1;
         let target = head.target.of(self.input.bytes());
-        head_bytes(response, moment, last_word(&head, left), target, &mut scratch.head);
+        head_bytes(
+            response,
+            moment,
+            last_word(&head, left),
+            target,
+            &mut scratch.head,
+        );
         self.output.add(scratch.head.bytes());
         note(&mut self.moments, moment);
         self.input.skip(head.head_len + behind);

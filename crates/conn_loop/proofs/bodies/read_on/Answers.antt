@@ -20,9 +20,11 @@ returns-in-More-clause-lies c fed ahead stands parts asks path =
 pub returns-in-More-clause-kept : goal.returns-in-More-clause-kept
 returns-in-More-clause-kept c = λ left size.
     let e = c.feed-fed.ensures in
-    let feeds = feeds_of c.bytes.result.now c.args.input.now c.args.head.head_len c.args.reader c.feed-fed.new.self c.feed-fed.result.used c.feed-fed.result.state c.bytes.ensures.is e.within e.state e.stands e.shows e.all in
-    (more_kept c.args.input.now c.args.head c.args.reader c.feed-fed.new.self c.feed-fed.result.used c.args.room c.feed-fed.result.state c.requires.head c.requires.counted feeds
-    c.keep.new.self c.keep.ensures c.in-More.is, tt)
+    let feeds = feeds_of c.bytes.result.now c.args.input.now c.args.head.head_len c.args.reader c.feed-fed.new.self c.feed-fed.result.used c.feed-fed.result.state c.bytes.ensures.is e.within e.state e.stands e.shows e.all in (
+      more_kept c.args.input.now c.args.head c.args.reader c.feed-fed.new.self c.feed-fed.result.used c.args.room c.feed-fed.result.state c.requires.head c.requires.counted feeds
+          c.keep.new.self c.keep.ensures c.in-More.is,
+      tt,
+    )
 
 pub returns-in-More-clause-read : goal.returns-in-More-clause-read
 returns-in-More-clause-read c = λ path.
@@ -35,8 +37,11 @@ pub returns-in-More-clause-nearer : goal.returns-in-More-clause-nearer
 returns-in-More-clause-nearer c = λ path.
     let e = c.feed-fed.ensures in
     let feeds = feeds_of c.bytes.result.now c.args.input.now c.args.head.head_len c.args.reader c.feed-fed.new.self c.feed-fed.result.used c.feed-fed.result.state c.bytes.ensures.is e.within e.state e.stands e.shows e.all in
-    omega (arith, more_nearer c.args.input.now c.args.head c.args.reader c.feed-fed.new.self c.feed-fed.result.used c.args.room c.feed-fed.result.state c.requires.head c.requires.counted feeds
-    c.keep.new.self c.keep.ensures c.in-More.is)
+    omega (
+      arith,
+      more_nearer c.args.input.now c.args.head c.args.reader c.feed-fed.new.self c.feed-fed.result.used c.args.room c.feed-fed.result.state c.requires.head c.requires.counted feeds
+          c.keep.new.self c.keep.ensures c.in-More.is,
+    )
 
 pub returns-in-Whole-clause-lies : goal.returns-in-Whole-clause-lies
 returns-in-Whole-clause-lies c fed ahead stands parts asks path =
@@ -59,6 +64,8 @@ returns-in-Refuse-clause-lies c fed ahead stands parts asks path =
 pub returns-in-Refuse-clause-kept : goal.returns-in-Refuse-clause-kept
 returns-in-Refuse-clause-kept c = λ left size.
     let e = c.feed-fed.ensures in
-    let feeds = feeds_of c.bytes.result.now c.args.input.now c.args.head.head_len c.args.reader c.feed-fed.new.self c.feed-fed.result.used c.feed-fed.result.state c.bytes.ensures.is e.within e.state e.stands e.shows e.all in
-    (refused_kept c.args.input.now c.args.head c.args.reader c.feed-fed.new.self c.feed-fed.result.used c.args.room c.feed-fed.result.state c.requires.head c.requires.counted feeds
-    c.in-Refuse.code c.in-Refuse.is, tt)
+    let feeds = feeds_of c.bytes.result.now c.args.input.now c.args.head.head_len c.args.reader c.feed-fed.new.self c.feed-fed.result.used c.feed-fed.result.state c.bytes.ensures.is e.within e.state e.stands e.shows e.all in (
+      refused_kept c.args.input.now c.args.head c.args.reader c.feed-fed.new.self c.feed-fed.result.used c.args.room c.feed-fed.result.state c.requires.head c.requires.counted feeds
+          c.in-Refuse.code c.in-Refuse.is,
+      tt,
+    )

@@ -85,9 +85,10 @@ returns-in-Unfinished-clause-proceeds g c = record {
 
 pub returns-in-Unfinished-clause-nearer : goal.returns-in-Unfinished-clause-nearer
 returns-in-Unfinished-clause-nearer g c =
-    let same : to_go c.make_room.new.self ≡ to_go c.args.self.now = to_go_same c.args.self.now c.make_room.new.self c.make_room.ensures.same in
-    (omega (arith, c.read_more.ensures.nearer.0, c.look.ensures.nearer, same),
-    nearer_from c.read_more.result (to_go c.read_more.new.self) (to_go c.look.new.self) (to_go c.args.self.now) c.read_more.ensures.nearer.1 (omega (arith, c.look.ensures.nearer, same)))
+    let same : to_go c.make_room.new.self ≡ to_go c.args.self.now = to_go_same c.args.self.now c.make_room.new.self c.make_room.ensures.same in (
+      omega (arith, c.read_more.ensures.nearer.0, c.look.ensures.nearer, same),
+      nearer_from c.read_more.result (to_go c.read_more.new.self) (to_go c.look.new.self) (to_go c.args.self.now) c.read_more.ensures.nearer.1 (omega (arith, c.look.ensures.nearer, same)),
+    )
 
 pub returns-in-Unfinished-clause-clocked : goal.returns-in-Unfinished-clause-clocked
 returns-in-Unfinished-clause-clocked g c =
@@ -179,9 +180,10 @@ returns-in-Whole-clause-proceeds g c =
 
 pub returns-in-Whole-clause-nearer : goal.returns-in-Whole-clause-nearer
 returns-in-Whole-clause-nearer g c =
-    let same : to_go c.make_room.new.self ≡ to_go c.args.self.now = to_go_same c.args.self.now c.make_room.new.self c.make_room.ensures.same in
-    (omega (arith, c.respond.ensures.nearer.0, c.look.ensures.nearer, same),
-    nearer_from c.respond.result (to_go c.respond.new.self) (to_go c.look.new.self) (to_go c.args.self.now) c.respond.ensures.nearer.1 (omega (arith, c.look.ensures.nearer, same)))
+    let same : to_go c.make_room.new.self ≡ to_go c.args.self.now = to_go_same c.args.self.now c.make_room.new.self c.make_room.ensures.same in (
+      omega (arith, c.respond.ensures.nearer.0, c.look.ensures.nearer, same),
+      nearer_from c.respond.result (to_go c.respond.new.self) (to_go c.look.new.self) (to_go c.args.self.now) c.respond.ensures.nearer.1 (omega (arith, c.look.ensures.nearer, same)),
+    )
 
 pub returns-in-Whole-clause-clocked : goal.returns-in-Whole-clause-clocked
 returns-in-Whole-clause-clocked g c =

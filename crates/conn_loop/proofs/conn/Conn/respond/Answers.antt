@@ -79,9 +79,12 @@ returns-in-Answer-clause-proceeds g c =
 pub returns-in-Answer-clause-nearer : goal.returns-in-Answer-clause-nearer
 returns-in-Answer-clause-nearer g c =
     let fewer : to_go c.answer.new.self < to_go c.args.self.now =
-    omega (arith, responded_nearer c.in-Answer.response c.answer.ensures.0 c.consult.new.self c.answer.new.self c.answer.ensures.1,
-    to_go_left (g.A.App.moves c.args.app.now) c.in-Answer.response c.make_way.new.self c.consult.new.self c.in-Answer.ensures,
-    to_go_same c.args.self.now c.make_way.new.self c.make_way.ensures.same) in
+    omega (
+      arith,
+      responded_nearer c.in-Answer.response c.answer.ensures.0 c.consult.new.self c.answer.new.self c.answer.ensures.1,
+      to_go_left (g.A.App.moves c.args.app.now) c.in-Answer.response c.make_way.new.self c.consult.new.self c.in-Answer.ensures,
+      to_go_same c.args.self.now c.make_way.new.self c.make_way.ensures.same,
+    ) in
     (omega (arith, fewer), fewer)
 
 pub returns-in-Answer-clause-clocked : goal.returns-in-Answer-clause-clocked

@@ -36,8 +36,11 @@ returns-clause-stage g c = part_out g.F.Files.folder c.make_way_for_part.new.sel
 pub returns-clause-nearer : goal.returns-clause-nearer
 returns-clause-nearer g c =
     let fewer : to_go c.read_part.new.self < to_go c.args.self.now =
-    omega (arith, part_nearer g.F.Files.folder c.make_way_for_part.new.self c.read_part.new.self _ _ c.read_part.ensures,
-    to_go_same c.args.self.now c.make_way_for_part.new.self c.make_way_for_part.ensures.same) in
+    omega (
+      arith,
+      part_nearer g.F.Files.folder c.make_way_for_part.new.self c.read_part.new.self _ _ c.read_part.ensures,
+      to_go_same c.args.self.now c.make_way_for_part.new.self c.make_way_for_part.ensures.same,
+    ) in
     (omega (arith, fewer), fewer)
 
 pub returns-clause-goes : goal.returns-clause-goes
