@@ -1,9 +1,10 @@
-// The way of a word into a poller. It is with the link or listener until that is added, and then with the poller.
+//! The seat that delivers a word. It is with the link or listener until that is added, and then with the
+//! poller.
 ghost use Rattle.std.specs.Prelude.{◌≡◌, ◌<◌, ◌≤◌, ◌+◌, ◌==◌, ◌||◌, ◌↔◌, IsTrue, length, nat_lt, slice_index};
 ghost use Rattle.std.specs.Arc.{arc_value};
 ghost use Rattle.poller.specs.Deliveries.{limits_of};
-ghost use Rattle.poller.specs.Ports.{FeedState, IsFeed, feed_state};
-ghost use Rattle.poller.specs.Seats.{IsFeeder, IsOf, scripts_of, sight_of, table_of};
+ghost use Rattle.poller.specs.LinkSeats.{DeliveryState, IsDeliverySeat, delivery_state};
+ghost use Rattle.poller.specs.Seats.{IsDeliverer, IsOf, scripts_of, knowledge_of, table_of};
 
 use crate::net::{Net, NetSeat};
 use std::alloc::Global;
@@ -12,7 +13,7 @@ use std::sync::Arc;
 
 /// The one seat that may raise a word, with how often it did and may.
 #[derive(Drop)]
-pub(crate) struct Feed {
+pub(crate) struct DeliverySeat {
     net: Arc<Net, Global>,
     seat: NetSeat,
     word: usize,
@@ -21,25 +22,25 @@ pub(crate) struct Feed {
     left: bool,
 }
 
-impl Model for Feed {
-    ghost Value = { FeedState };
+impl Model for DeliverySeat {
+    ghost Value = { DeliveryState };
 
-    ghost view = { λ feed. feed_state (arc_value feed.net) feed.seat feed.word feed.delivered feed.limit };
+    ghost view = { λ d. delivery_state (arc_value d.net) d.seat d.word d.delivered d.limit };
 
-    ghost invariant = { λ feed. IsFeed (arc_value feed.net) feed.seat feed.word feed.delivered feed.limit feed.left };
+    ghost invariant = { λ d. IsDeliverySeat (arc_value d.net) d.seat d.word d.delivered d.limit d.left };
 }
 
-impl Feed {
-    /// The feed of a word that wasn't raised yet and is raised so often at most.
-    pub(crate) fn new(net: Arc<Net, Global>, seat: NetSeat, word: usize, limit: u64) -> Feed
+impl DeliverySeat {
+    /// The seat of a word that wasn't raised yet and is raised so often at most.
+    pub(crate) fn new(net: Arc<Net, Global>, seat: NetSeat, word: usize, limit: u64) -> DeliverySeat
         requires own { IsOf (arc_value net) seat }
         requires inside { word < length (limits_of (scripts_of (arc_value net))) }
-        requires alone { IsFeeder seat word }
-        requires fresh { ((sight_of seat).seen ≡ 0) × ((sight_of seat).loads ≡ 0) × ((sight_of seat).left ≡ 0) }
+        requires alone { IsDeliverer seat word }
+        requires fresh { ((knowledge_of seat).seen ≡ 0) × ((knowledge_of seat).looks ≡ 0) × ((knowledge_of seat).left ≡ 0) }
         requires most { limit ≡ slice_index (limits_of (scripts_of (arc_value net))) word }
         ensures { result ≡ record { table = table_of (arc_value net); word = word; delivered = 0; limit = limit; left = 0; looks = 0 } }
     {
-        Feed {
+        DeliverySeat {
             net,
             seat,
             word,
@@ -57,7 +58,7 @@ impl Feed {
         self.left || self.delivered == self.limit
     }
 
-    /// Whether the link has left, at one load.
+    /// Whether the link has left, at one look.
     pub(crate) fn has_left(&mut self) -> bool
         ensures found { self.new ≡ record self.old { left = self.new.left; looks = self.old.looks + 1 } }
         ensures left { IsTrue result ↔ (0 < self.new.left) }
