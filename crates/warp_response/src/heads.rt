@@ -1,5 +1,5 @@
 // The heads of answers.
-ghost use Rattle.std.specs.Prelude.{◌≡◌, ◌≤◌, ◌<◌, ◌+◌, ◌++◌, ℕ, None, length};
+ghost use Rattle.std.specs.Prelude.{◌≡◌, ◌≤◌, ◌<◌, ◌+◌, ◌*◌, ◌++◌, ℕ, None, length};
 ghost use Rattle.warp_response.specs.Head.{status_line, head_text, longest_head, longest_head_without_place};
 ghost use Rattle.warp_response.specs.Reply.{Reply, IsSendable, IsResponseFor, content_length, head_shown, head_of};
 ghost use Rattle.warp_response.specs.Statuses.{HasPhrase};
@@ -8,7 +8,6 @@ use crate::fields::{LINE_END, add_allow, add_kind, add_last_word, add_length, ad
 use crate::head_buf::{HEAD_BYTES, HeadBuf};
 use crate::location::add_place;
 use crate::response::{Content, LastWord, Response};
-use crate::status;
 
 /// The status line of an answer that is sent (RFC 9112, section 4).
 #[tactic(auto, unfolding(crate::specs::Head::status_line, crate::specs::Statuses::HasPhrase))]
@@ -18,16 +17,16 @@ fn status_text(status: u16) -> &'static [u8]
     ensures short { length result.now ≤ 63 }
 {
     match status {
-        status::OK => b"HTTP/1.1 200 OK\r\n",
-        status::MOVED_PERMANENTLY => b"HTTP/1.1 301 Moved Permanently\r\n",
-        status::BAD_REQUEST => b"HTTP/1.1 400 Bad Request\r\n",
-        status::NOT_FOUND => b"HTTP/1.1 404 Not Found\r\n",
-        status::METHOD_NOT_ALLOWED => b"HTTP/1.1 405 Method Not Allowed\r\n",
-        status::CONTENT_TOO_LARGE => b"HTTP/1.1 413 Content Too Large\r\n",
-        status::URI_TOO_LONG => b"HTTP/1.1 414 URI Too Long\r\n",
-        status::EXPECTATION_FAILED => b"HTTP/1.1 417 Expectation Failed\r\n",
-        status::HEADER_FIELDS_TOO_LARGE => b"HTTP/1.1 431 Request Header Fields Too Large\r\n",
-        status::NOT_IMPLEMENTED => b"HTTP/1.1 501 Not Implemented\r\n",
+        200 => b"HTTP/1.1 200 OK\r\n",
+        301 => b"HTTP/1.1 301 Moved Permanently\r\n",
+        400 => b"HTTP/1.1 400 Bad Request\r\n",
+        404 => b"HTTP/1.1 404 Not Found\r\n",
+        405 => b"HTTP/1.1 405 Method Not Allowed\r\n",
+        413 => b"HTTP/1.1 413 Content Too Large\r\n",
+        414 => b"HTTP/1.1 414 URI Too Long\r\n",
+        417 => b"HTTP/1.1 417 Expectation Failed\r\n",
+        431 => b"HTTP/1.1 431 Request Header Fields Too Large\r\n",
+        501 => b"HTTP/1.1 501 Not Implemented\r\n",
         _ => unreachable!(),
     }
 }
@@ -55,6 +54,7 @@ pub fn head_bytes(
     requires { IsSendable target.now response.now }
     ensures head { out.new ≡ head_text (head_shown target.now response.now) moment last }
     ensures long { length out.new ≤ longest_head }
+    ensures within { length out.new ≤ 512 + 2 * length target.now }
     ensures short { response.now.place ≡ None → length out.new ≤ longest_head_without_place }
     ensures reply { (reply : Reply) → IsResponseFor target.now response.now reply → out.new ≡ head_text (head_of reply) moment last }
 {
