@@ -3,7 +3,7 @@ use Rattle.std.specs.Prelude.{◌≡◌, ℕ, ◌+◌, ◌≤◌, List, [], ◌�
 use Rattle.reg_keys.specs.declared.opening.Opening.{Opening}
 use Rattle.reg_keys.specs.Tests.{same, one_if, total}
 use Rattle.warp_tally.specs.declared.calls.TallyCall.{TallyCall}
-use Rattle.warp_tally.specs.declared.calls.TallyCall.TheVariants.{Accept, TurnAway, Finish, Stop, Look}
+use Rattle.warp_tally.specs.declared.calls.TallyCall.TheVariants.{Accept, TurnAway, Finish}
 use Rattle.warp_tally.specs.declared.calls.Counted.{Counted}
 use Rattle.warp_tally.specs.declared.calls.Counted.TheVariants.{Yes}
 use Rattle.warp_tally.specs.declared.calls.TallyReply.{TallyReply}
@@ -56,7 +56,8 @@ finished_in (e ∷ es) = finished_by e.call e.reply.counted ++ finished_in es
 -- Each finish has an accept before it, and of what is accepted and not finished an opening has no more than all together
 pub record FollowsAccepts (past : List TallyEntry) : Type 0 where
   pub each : (o : Opening) → total (finishes o) past ≤ total (accepts o) past
-  pub together : (o : Opening) → total (accepts o) past + total finishes_any past ≤ total accepts_any past + total (finishes o) past
+  pub together : (o : Opening) → total (accepts o) past + total finishes_any past
+      ≤ total accepts_any past + total (finishes o) past
 
 -- a reply shows how much was accepted, turned away and finished up to its call
 pub record ShowsCounts (past : List TallyEntry) (r : TallyReply) : Type 0 where

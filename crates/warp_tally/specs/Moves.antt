@@ -1,5 +1,5 @@
 -- Inner: what one call does to a tally, before its reply is made.
-use Rattle.std.specs.Prelude.{◌≡◌, ℕ, ◌<◌, ◌^◌, Bool}
+use Rattle.std.specs.Prelude.{◌≡◌, ◌<◌, ◌^◌, Bool}
 use Rattle.reg_keys.specs.declared.opening.Opening.{Opening}
 use Rattle.warp_tally.specs.declared.calls.TallyCall.{TallyCall}
 use Rattle.warp_tally.specs.declared.calls.TallyCall.TheVariants.{Accept, TurnAway, Finish, Stop, Look}

@@ -74,11 +74,13 @@ counts room past Look = No
 
 -- a reply that shows these totals
 abbrev pub reply_with : Counted → Totals → TallyReply
-reply_with counted t = record { counted = counted; accepted = t.accepted; turned = t.turned; finished = t.finished; stop = t.stop }
+reply_with counted t =
+    record { counted = counted; accepted = t.accepted; turned = t.turned; finished = t.finished; stop = t.stop }
 
 -- the reply that a call must have after the past, with room for one opening more or without
 abbrev pub tally_reply : Bool → List TallyEntry → TallyCall → TallyReply
-tally_reply room past call = reply_with (counts room past call) (totals_after call (counts room past call) (totals_of past))
+tally_reply room past call =
+    reply_with (counts room past call) (totals_after call (counts room past call) (totals_of past))
 
 -- each reply is the one that its call must have
 abbrev pub IsTallyPast : List TallyEntry → Type 0
