@@ -380,7 +380,7 @@ fn three_passes(
     manager_passes_are_split_cell_by_cell();
     let mut passes = Vec::with_capacity(alloc, 3)?;
     passes.push_reserved(first);
-    for _ in 1..3 {
+    for _ in 1..3usize {
         let first = &mut passes[0];
         let other = mgr.split(alloc, first)?;
         passes.push_reserved(other);
