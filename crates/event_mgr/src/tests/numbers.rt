@@ -2,8 +2,8 @@
 // as the plain body answers them.
 ghost use Rattle.turn_cell.specs.Calls.{IsOf};
 
+use super::plain_numbers::plain_reply;
 use crate::numbers::{Numbers, NumbersCall, NumbersEntry, NumbersReply};
-use crate::plain_numbers::plain_reply;
 use reg_keys::DESCRIPTORS;
 use std::test::Fail;
 use turn_cell::{Pass, Tried, TurnCell};
