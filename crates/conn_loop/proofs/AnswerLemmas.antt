@@ -1,15 +1,15 @@
 -- One step of the answers, and of what goes with them.
-use Rattle.std.proofs.Common.{◌≡◌, ℕ, zero, suc, ◌+◌, ◌<◌, Bool, true, false, List, [], ◌∷◌, ◌++◌, drop, refl, ap, ◌∙◌, arith}
-use Rattle.std.specs.Prelude.{if◌then◌else◌}
+use Rattle.std.proofs.Common.{◌≡◌, ℕ, zero, suc, ◌+◌, ◌<◌, Bool, true, false, List, [], ◌∷◌, ◌++◌, drop, refl, ap, ◌∙◌, arith, inl, inr, append-nil}
+use Rattle.std.specs.Prelude.{if◌then◌else◌, ◌⊎◌}
 use Rattle.warp_request.specs.Body.{BodyVerdict, body_of}
 use Rattle.warp_request.specs.Lines.{has_line, skip_empty}
 use Rattle.warp_request.specs.Next.{next_of, waits}
 use Rattle.warp_request.specs.Verdict.{Verdict, more, Asked}
 use Rattle.warp_request.specs.Verdict as head
-use Rattle.warp_response.specs.Text.{answer_text, refusal_text}
+use Rattle.warp_response.specs.Text.{answer_text, interim_text, refusal_text}
 use Rattle.conn_loop.specs.Answers.{IsOpen, limit, closes, last_word, answers_at, answers_within, answers_behind, finals_at, finals_within, closed_at, closed_within, rest_at, rest_within}
 use Rattle.conn_loop.specs.Replying.{Replying}
-use Rattle.conn_loop.specs.Turns.{unfinished, refused, whole, turn_of, turn_by_head, turn_by_body, interim_of, interim_by}
+use Rattle.conn_loop.specs.Turns.{Turn, unfinished, refused, whole, turn_of, turn_by_head, turn_by_body, interim_of, interim_by}
 
 -- ---- what bytes begin with
 
@@ -61,6 +61,31 @@ pub within_behind : (reply : Replying) (k : ℕ) (s ks : List ℕ) → interim_o
 unfolding answers_within answers_behind
 within_behind reply zero s ks none = refl
 within_behind reply (suc k) s ks none = ap (λ (t : List ℕ). t ++ answers_behind reply (suc k) s ks) none
+
+-- ---- no moment is there
+
+-- by the verdict on the head there is no interim answer, or it is the one
+interim_some : (v : Verdict) → (interim_by v ≡ []) ⊎ (interim_by v ≡ interim_text)
+interim_some head.more = inl refl
+interim_some (head.refused code) = inl refl
+interim_some (head.asked a) = elim a.interim as (λ (b : Bool). ((if b then interim_text else []) ≡ []) ⊎ ((if b then interim_text else []) ≡ interim_text)) [ true ↦ inr refl | false ↦ inl refl ]
+
+turn_nothing : (reply : Replying) (turn : Turn) (k : ℕ) (behind : ℕ → List ℕ → List ℕ) → answers_at reply turn k [] behind ≡ []
+unfolding answers_at
+turn_nothing reply unfinished k behind = refl
+turn_nothing reply (refused code) k behind = refl
+turn_nothing reply (whole a len) k behind = refl
+
+-- then nothing is due but an interim answer
+pub within_nothing : (reply : Replying) (k : ℕ) (s : List ℕ) → (answers_within reply k s [] ≡ []) ⊎ (answers_within reply k s [] ≡ interim_text)
+unfolding answers_within interim_of
+within_nothing reply zero s = inl refl
+within_nothing reply (suc k) s =
+    let none = turn_nothing reply (turn_of s) k (λ len later. answers_within reply k (drop len s) later) in
+    elim (interim_some (next_of s)) [
+      | inl is ↦ inl (ap (λ (v : List ℕ). interim_by (next_of s) ++ v) none ∙ append-nil (interim_by (next_of s)) ∙ is)
+      | inr is ↦ inr (ap (λ (v : List ℕ). interim_by (next_of s) ++ v) none ∙ append-nil (interim_by (next_of s)) ∙ is)
+    ]
 
 -- ---- a request that isn't whole
 

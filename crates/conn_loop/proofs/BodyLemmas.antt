@@ -9,7 +9,7 @@ use Rattle.warp_request.specs.declared.verdict.HeadInfo.{HeadInfo}
 use Rattle.warp_request.specs.declared.verdict.Next.TheVariants.{Head}
 use Rattle.warp_request.specs.Body.{BodyVerdict, body_of}
 use Rattle.warp_request.specs.Body as body
-use Rattle.warp_request.specs.BodyReader.{StandsFor, state_of, state_verdict}
+use Rattle.warp_request.specs.BodyReader.{Represents as Reads, state_of, state_verdict}
 use Rattle.warp_request.specs.declared.body_reader.BodyState.{BodyState}
 use Rattle.warp_request.specs.declared.body_reader.BodyState.TheVariants as States
 use Rattle.warp_request.specs.declared.verdict.Framing.{Framing}
@@ -55,6 +55,11 @@ asked_same s t head x fits same =
       keeps = head.keeps;
       interim = head.interim;
     }
+
+-- and stays so with more bytes behind
+pub asked_grown : (input piece : List ℕ) (head : HeadInfo) → HasHead input head → asked_in (input ++ piece) head ≡ asked_in input head
+asked_grown input piece head x =
+    sym (asked_same input (input ++ piece) head x.lies (omega (arith, x.lies.2, length-append input piece)) (sym (take-append-le head.head_len input piece x.lies.2)))
 
 -- the front of a list, and nothing behind it
 take_front : (n : ℕ) (s : List ℕ) → take n (take n s) ≡ take n s
@@ -105,7 +110,7 @@ module _ (a : Asked) (input fed ahead : List ℕ) (fits : a.len ≤ length input
     is_whole = λ t. settled_turn (body.whole (length fed + used)) says (λ e. cc) t;
   }
 
-  pub reading_ahead : (reader : BodyReader) (used : ℕ) → used ≡ length (drop a.len input) → StandsFor reader a.framing (fed ++ take used (drop a.len input))
+  pub reading_ahead : (reader : BodyReader) (used : ℕ) → used ≡ length (drop a.len input) → Reads reader a.framing (fed ++ take used (drop a.len input))
       → body_of a.framing (fed ++ drop a.len input) ≡ body.more → IsReading a reader (take a.len input) ahead
   reading_ahead reader used all stands says =
       let piece : take used (drop a.len input) ≡ drop a.len input = take_all used (drop a.len input) (omega (arith, all)) in
@@ -115,7 +120,7 @@ module _ (a : Asked) (input fed ahead : List ℕ) (fits : a.len ≤ length input
             ∙ ap (λ (v : List ℕ). take a.len (take a.len input) ++ v)
             (sym (append-nil (fed ++ drop a.len input)) ∙ ap (λ (v : List ℕ). (fed ++ drop a.len input) ++ v) (sym (drop_front a.len input)));
         inside = omega (arith, fits, length-take a.len input);
-        stands = subst (λ (v : List ℕ). StandsFor reader a.framing (fed ++ v)) piece stands;
+        stands = subst (λ (v : List ℕ). Reads reader a.framing (fed ++ v)) piece stands;
         goes_on = says;
         asks = asks;
       }
@@ -124,8 +129,8 @@ module _ (a : Asked) (input fed ahead : List ℕ) (fits : a.len ≤ length input
 
 pub record Feeds (piece : List ℕ) (old new : BodyReader) (used : ℕ) (state : BodyState) : Type 0 where
   pub within : used ≤ length piece
-  pub says : (framing : Framing) (fed : List ℕ) → StandsFor old framing fed → body_of framing (fed ++ piece) ≡ state_verdict state (length fed + used)
-  pub stands : (framing : Framing) (fed : List ℕ) → StandsFor old framing fed → StandsFor new framing (fed ++ take used piece)
+  pub says : (framing : Framing) (fed : List ℕ) → Reads old framing fed → body_of framing (fed ++ piece) ≡ state_verdict state (length fed + used)
+  pub stands : (framing : Framing) (fed : List ℕ) → Reads old framing fed → Reads new framing (fed ++ take used piece)
   pub all : state ≡ States.More → used ≡ length piece
 
 rest_is : (s input : List ℕ) (n : ℕ) → s ≡ input → take (length s - n) (drop n s) ≡ drop n input
@@ -133,8 +138,8 @@ rest_is s input n is = take_all (length s - n) (drop n s) (omega (arith, length-
 
 pub feeds_of : (s input : List ℕ) (n : ℕ) (old new : BodyReader) (used : ℕ) (state : BodyState) → s ≡ input
     → used ≤ length (take (length s - n) (drop n s))
-    → ((framing : Framing) (fed : List ℕ) → StandsFor old framing fed → body_of framing (fed ++ take (length s - n) (drop n s)) ≡ state_verdict state (length fed + used))
-    → ((framing : Framing) (fed : List ℕ) → StandsFor old framing fed → StandsFor new framing (fed ++ take used (take (length s - n) (drop n s))))
+    → ((framing : Framing) (fed : List ℕ) → Reads old framing fed → body_of framing (fed ++ take (length s - n) (drop n s)) ≡ state_verdict state (length fed + used))
+    → ((framing : Framing) (fed : List ℕ) → Reads old framing fed → Reads new framing (fed ++ take used (take (length s - n) (drop n s))))
     → state ≡ state_of new → (state_of new ≡ States.More → used ≡ length (take (length s - n) (drop n s)))
     → Feeds (drop n input) old new used state
 feeds_of s input n old new used state is within says stands shows all =
@@ -172,7 +177,7 @@ module _ (input : List ℕ) (head : HeadInfo) (old new : BodyReader) (used room 
   pub more_up : (kept : List ℕ) → kept ≡ take head.head_len input → length kept ≡ head.head_len
   more_up kept same = ap (λ (v : List ℕ). length v) same ∙ omega (arith, length-take head.head_len input, x.lies.2)
 
-  pub more_lies : (kept fed ahead : List ℕ) → kept ≡ take head.head_len input → state ≡ States.More → StandsFor old head.framing fed
+  pub more_lies : (kept fed ahead : List ℕ) → kept ≡ take head.head_len input → state ≡ States.More → Reads old head.framing fed
       → ahead ≡ take head.head_len input ++ (fed ++ drop head.head_len input) → ((t : List ℕ) → next_of (ahead ++ t) ≡ asked (asked_in input head))
       → IsReading (asked_in kept head) new kept ahead
   more_lies kept fed ahead same is stands parts asks =
@@ -181,14 +186,14 @@ module _ (input : List ℕ) (head : HeadInfo) (old new : BodyReader) (used room 
       (reading_ahead (asked_in input head) input fed ahead x.lies.2 parts asks new used (feeds.all is) (feeds.stands head.framing fed stands)
       (says_at head.framing (fed ++ drop head.head_len input) state States.More (length fed + used) is (feeds.says head.framing fed stands))))
 
-  pub whole_lies : (fed ahead : List ℕ) → state ≡ States.Whole → StandsFor old head.framing fed
+  pub whole_lies : (fed ahead : List ℕ) → state ≡ States.Whole → Reads old head.framing fed
       → ahead ≡ take head.head_len input ++ (fed ++ drop head.head_len input) → ((t : List ℕ) → next_of (ahead ++ t) ≡ asked (asked_in input head))
       → IsReady (asked_in input head) used input ahead
   whole_lies fed ahead is stands parts asks =
       ready_ahead (asked_in input head) input fed ahead x.lies.2 parts asks used feeds.within
       (says_at head.framing (fed ++ drop head.head_len input) state States.Whole (length fed + used) is (feeds.says head.framing fed stands))
 
-  pub refused_lies : (code : ℕ) (fed ahead : List ℕ) → state ≡ States.Refuse code → StandsFor old head.framing fed
+  pub refused_lies : (code : ℕ) (fed ahead : List ℕ) → state ≡ States.Refuse code → Reads old head.framing fed
       → ahead ≡ take head.head_len input ++ (fed ++ drop head.head_len input) → ((t : List ℕ) → next_of (ahead ++ t) ≡ asked (asked_in input head))
       → (t : List ℕ) → turn_of (ahead ++ t) ≡ refused code
   refused_lies code fed ahead is stands parts asks t =

@@ -3,8 +3,8 @@ use Rattle.std.proofs.Common.{◌≡◌, ℕ, zero, suc, ◌+◌, ◌*◌, ◌-�
 use Rattle.std.specs.Prelude.{◌==◌, ◌&&◌, if◌then◌else◌, nat_lt, nat_le}
 use Rattle.std.proofs.lemmas.Bool.Decides.{nat_tests}
 use Rattle.httparse.specs.Ascii.{line_feed, carriage_return}
-use Rattle.warp_request.specs.declared.limits.TheConstants.{BODY_LIMIT}
-use Rattle.warp_request.specs.declared.status.TheConstants.{BAD_REQUEST, CONTENT_TOO_LARGE, FIELDS_TOO_LARGE}
+use Rattle.warp_request.specs.LimitsAndWords.{body_limit}
+use Rattle.warp_response.specs.Statuses.{bad_request, content_too_large, header_fields_too_large}
 use Rattle.warp_request.specs.declared.verdict.Framing.{Framing}
 use Rattle.warp_request.specs.declared.verdict.Framing.TheVariants as framings
 use Rattle.warp_request.specs.Body.{more, whole, Part, cut, wrong, past, behind_content, behind_line, body_of, capped, chunk_line, chunked, chunks, line_end, line_of, section_of, trailers, verdict_of}
@@ -30,10 +30,10 @@ capped_caps limit code s w (wrong fault) short = tt
 capped_caps limit code s w (past n rest) short = omega (arith, short, length-drop (length w - length rest) s)
 
 line_caps : (s : List ℕ) → Caps 256 s (chunk_line s)
-line_caps s = capped_caps 256 BAD_REQUEST s (take 256 s) (line_of (take 256 s)) (omega (arith, length-take 256 s))
+line_caps s = capped_caps 256 bad_request s (take 256 s) (line_of (take 256 s)) (omega (arith, length-take 256 s))
 
 trailers_caps : (s : List ℕ) → Caps 4096 s (trailers s)
-trailers_caps s = capped_caps 4096 FIELDS_TOO_LARGE s (take 4096 s) (section_of true (take 4096 s)) (omega (arith, length-take 4096 s))
+trailers_caps s = capped_caps 4096 header_fields_too_large s (take 4096 s) (section_of true (take 4096 s)) (omega (arith, length-take 4096 s))
 
 if_caps : (limit n code : ℕ) (s rest : List ℕ) (b : Bool) → length s ≤ length rest + limit → Caps limit s (if b then past n rest else wrong code)
 unfolding Caps
@@ -48,8 +48,8 @@ if_cut limit code s false x = tt
 end_caps : (n : ℕ) (s : List ℕ) → Caps 2 s (line_end n s)
 unfolding Caps line_end
 end_caps n [] = omega arith
-end_caps n (b ∷ []) = if_cut 2 BAD_REQUEST (b ∷ []) (b == carriage_return) (omega arith)
-end_caps n (b ∷ c ∷ s) = if_caps 2 n BAD_REQUEST (b ∷ c ∷ s) s (b == carriage_return && c == line_feed) (omega arith)
+end_caps n (b ∷ []) = if_cut 2 bad_request (b ∷ []) (b == carriage_return) (omega arith)
+end_caps n (b ∷ c ∷ s) = if_caps 2 n bad_request (b ∷ c ∷ s) s (b == carriage_return && c == line_feed) (omega arith)
 
 -- ---- the chunks
 
@@ -96,7 +96,7 @@ unfolding Caps Fewer
 behind_fewer k sum s cut x small again = omega (arith, x)
 behind_fewer k sum s (wrong code) x small again = tt
 behind_fewer k sum s (past size rest) x small again =
-    if_fewer (k * 258 + 258 + (1048576 - sum) + 4096) CONTENT_TOO_LARGE s (nat_lt BODY_LIMIT (sum + size))
+    if_fewer (k * 258 + 258 + (1048576 - sum) + 4096) content_too_large s (nat_lt body_limit (sum + size))
     (if size == 0 then trailers rest else behind_content (chunks k (sum + size)) (line_end 0 (drop size rest)))
     (λ fits.
     let most : sum + size ≤ 1048576 = grind (arith, nat_tests, fits) in

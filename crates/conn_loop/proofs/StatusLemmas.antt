@@ -1,186 +1,20 @@
--- The statuses of refusals, each of which can be sent.
-use Rattle.std.proofs.Common.{◌≡◌, ℕ, zero, suc, ◌+◌, Bool, true, false, List, [], ◌∷◌, length, take, drop, Option, Some, refl, subst, arith}
-use Rattle.std.specs.Prelude.{◌&&◌, ◌||◌, ◌==◌, nat_le, nat_lt, not, if◌then◌else◌}
-use Rattle.std.specs.List.{list_any, prefix_len}
-use Rattle.std.proofs.lemmas.Bool.Decides.{nat_tests}
-use Rattle.httparse.specs.Ascii.{line_feed, carriage_return}
-use Rattle.warp_request.specs.declared.body_place.TheConstants.{CHUNK_DIGITS, CHUNK_LINE_LIMIT, TRAILER_LIMIT}
-use Rattle.warp_request.specs.declared.limits.TheConstants.{BODY_LIMIT}
-use Rattle.warp_request.specs.declared.status.TheConstants.{URI_TOO_LONG, FIELDS_TOO_LARGE, BAD_REQUEST, CONTENT_TOO_LARGE}
+-- Each refusal has a status that can be sent.
+use Rattle.std.proofs.Common.{◌≡◌, ℕ, List}
 use Rattle.warp_request.specs.declared.verdict.Framing.{Framing}
-use Rattle.warp_request.specs.declared.verdict.Framing.TheVariants as framings
+use Rattle.warp_request.specs.Body.{body_of}
 use Rattle.warp_request.specs.Body as body
-use Rattle.warp_request.specs.Body.{Part, cut, wrong, past, is_hex, opens_extension, behind_extension, number_of, line_end, behind_digits, line_of, section_of, capped, chunk_line, trailers, behind_content, behind_line, chunks, chunked, verdict_of, body_of}
-use Rattle.warp_request.specs.Checks.{Parts, parts_of, checks, checked, first_fault, verdict_by}
-use Rattle.warp_request.specs.Lines.{has_line, breaks_line_rule}
-use Rattle.warp_request.specs.Next.{window_of, waits, by_reading, next_of}
-use Rattle.warp_request.specs.Reading.{Reading, whole, unfinished, invalid, reading}
-use Rattle.warp_request.specs.Verdict.{Verdict, more, refused, asked}
-use Rattle.warp_response.specs.Head.{phrases}
-use Rattle.warp_response.specs.Reply.{HasPhrase}
+use Rattle.warp_request.specs.Laws.{IsRefusalStatus}
+use Rattle.warp_request.specs.Next.{next_of}
+use Rattle.warp_request.specs.Verdict.{refused}
+use Rattle.warp_request.proofs.StatusLemmas.{refusal_phrase, refusal_least, body_status as body_refuses}
 use Rattle.conn_loop.specs.Phases.{IsRefusal}
+use Rattle.conn_loop.proofs.VerdictLemmas.{tells_of}
 
-sent_test : ℕ → Bool
-sent_test code = list_any (λ row. code == row.0) phrases && nat_lt 399 code
+can_refuse : (code : ℕ) → IsRefusalStatus code → IsRefusal code
+can_refuse code is = (refusal_phrase code is, refusal_least code is)
 
-both : (a b : Bool) → (a && b) ≡ true → (a ≡ true) × (b ≡ true)
-both true true is = (refl, refl)
-both true false is = cc
-both false b is = cc
-
-sent_of : (code : ℕ) → sent_test code ≡ true → IsRefusal code
-unfolding sent_test HasPhrase
-sent_of code is =
-    let parts = both (list_any (λ row. code == row.0) phrases) (nat_lt 399 code) is in
-    (parts.0, grind (arith, nat_tests, parts.1))
-
--- a refusal has such a status
-Sends : Verdict → Type 0
-Sends more = Unit {0}
-Sends (refused code) = IsRefusal code
-Sends (asked a) = Unit {0}
-
-sends_if : (b : Bool) (v w : Verdict) → Sends v → Sends w → Sends (if b then v else w)
-sends_if true v w x y = x
-sends_if false v w x y = y
-
-all_sent : List (Bool × ℕ) → Bool
-all_sent [] = true
-all_sent (check ∷ checks) = sent_test check.1 && all_sent checks
-
-fault_sent : (b : Bool) (code : ℕ) (rest : Option ℕ) (p : Parts) → IsRefusal code → Sends (verdict_by rest p) → Sends (verdict_by (if b then Some code else rest) p)
-unfolding Sends
-fault_sent true code rest p sent x = sent
-fault_sent false code rest p sent x = x
-
-faults_sent : (checks : List (Bool × ℕ)) (p : Parts) → all_sent checks ≡ true → Sends (verdict_by (first_fault checks) p)
-unfolding Sends all_sent
-faults_sent [] p all = tt
-faults_sent (check ∷ checks) p all =
-    let parts = both (sent_test check.1) (all_sent checks) all in
-    fault_sent check.0 check.1 (first_fault checks) p (sent_of check.1 parts.0) (faults_sent checks p parts.1)
-
-checked_sent : (p : Parts) → Sends (checked p)
-unfolding checked all_sent sent_test
-checked_sent p = faults_sent (checks p) p refl
-
-waits_sent : (code : ℕ) (s : List ℕ) → sent_test code ≡ true → Sends (waits code s)
-unfolding Sends waits
-waits_sent code s sent = sends_if _ more (refused code) tt (sent_of code sent)
-
-reading_sent : (s w : List ℕ) (r : Reading w) → Sends (by_reading s w r)
-unfolding Sends by_reading sent_test
-reading_sent s w (whole h rest x) = checked_sent (parts_of h)
-reading_sent s w (unfinished none may) = waits_sent FIELDS_TOO_LARGE s refl
-reading_sent s w (invalid never) = sent_of BAD_REQUEST refl
-
-next_sent : (s : List ℕ) → Sends (next_of s)
-unfolding Sends next_of sent_test
-next_sent s =
-    let w = window_of s in
-    sends_if (not (has_line w)) (waits URI_TOO_LONG s) (if breaks_line_rule w then refused BAD_REQUEST else by_reading s w (reading w)) (waits_sent URI_TOO_LONG s refl)
-    (sends_if (breaks_line_rule w) (refused BAD_REQUEST) (by_reading s w (reading w)) (sent_of BAD_REQUEST refl) (reading_sent s w (reading w)))
-
--- what is refused is refused with a status that can be sent
 pub status_of : (s : List ℕ) (code : ℕ) → next_of s ≡ refused code → IsRefusal code
-unfolding Sends
-status_of s code is = subst (λ (v : Verdict). Sends v) is (next_sent s)
+status_of s code is = can_refuse code (tells_of s (refused code) is)
 
--- ---- bodies
-
--- a part that is refused is so with such a status
-PartSends : Part → Type 0
-PartSends cut = Unit {0}
-PartSends (wrong code) = IsRefusal code
-PartSends (past n rest) = Unit {0}
-
-bad : PartSends (wrong BAD_REQUEST)
-unfolding PartSends sent_test
-bad = sent_of BAD_REQUEST refl
-
-part_if : (b : Bool) (p q : Part) → PartSends p → PartSends q → PartSends (if b then p else q)
-part_if true p q x y = x
-part_if false p q x y = y
-
-end_sends : (n : ℕ) (s : List ℕ) → PartSends (line_end n s)
-unfolding PartSends line_end
-end_sends n [] = tt
-end_sends n (b ∷ []) = part_if (b == carriage_return) cut (wrong BAD_REQUEST) tt bad
-end_sends n (b ∷ c ∷ s) = part_if (b == carriage_return && c == line_feed) (past n s) (wrong BAD_REQUEST) tt bad
-
-digits_send : (digits s : List ℕ) → PartSends (behind_digits digits s)
-unfolding PartSends behind_digits
-digits_send digits [] = tt
-digits_send [] (b ∷ s) = bad
-digits_send (d ∷ digits) (b ∷ s) =
-    part_if (opens_extension b) (line_end (number_of (d ∷ digits)) (behind_extension s)) (line_end (number_of (d ∷ digits)) (b ∷ s))
-    (end_sends (number_of (d ∷ digits)) (behind_extension s)) (end_sends (number_of (d ∷ digits)) (b ∷ s))
-
-line_sends : (s : List ℕ) → PartSends (line_of s)
-unfolding line_of
-line_sends s =
-    let n = prefix_len is_hex s in
-    part_if (nat_lt CHUNK_DIGITS n) (wrong BAD_REQUEST) (behind_digits (take n s) (drop n s)) bad (digits_send (take n s) (drop n s))
-
-section_sends : (fresh : Bool) (s : List ℕ) → PartSends (section_of fresh s)
-unfolding PartSends section_of
-section_sends fresh [] = tt
-section_sends fresh (b ∷ []) = part_if (b == carriage_return) cut _ tt (part_if (b == line_feed || b == 0) (wrong BAD_REQUEST) cut bad tt)
-section_sends fresh (b ∷ c ∷ s) =
-    part_if (b == carriage_return) _ _
-    (part_if (c == line_feed) _ (wrong BAD_REQUEST) (part_if fresh (past 0 s) (section_of true s) tt (section_sends true s)) bad)
-    (part_if (b == line_feed || b == 0) (wrong BAD_REQUEST) (section_of false (c ∷ s)) bad (section_sends false (c ∷ s)))
-
-capped_sends : (limit code : ℕ) (s w : List ℕ) (p : Part) → IsRefusal code → PartSends p → PartSends (capped limit code s w p)
-unfolding PartSends
-capped_sends limit code s w cut sent x = part_if (nat_le limit (length s)) (wrong code) cut sent tt
-capped_sends limit code s w (wrong fault) sent x = x
-capped_sends limit code s w (past n rest) sent x = tt
-
-chunk_sends : (s : List ℕ) → PartSends (chunk_line s)
-unfolding sent_test
-chunk_sends s =
-    let w = take CHUNK_LINE_LIMIT s in
-    capped_sends CHUNK_LINE_LIMIT BAD_REQUEST s w (line_of w) (sent_of BAD_REQUEST refl) (line_sends w)
-
-trailers_send : (s : List ℕ) → PartSends (trailers s)
-unfolding sent_test
-trailers_send s =
-    let w = take TRAILER_LIMIT s in
-    capped_sends TRAILER_LIMIT FIELDS_TOO_LARGE s w (section_of true w) (sent_of FIELDS_TOO_LARGE refl) (section_sends true w)
-
-content_sends : (next : List ℕ → Part) (p : Part) → ((s : List ℕ) → PartSends (next s)) → PartSends p → PartSends (behind_content next p)
-unfolding PartSends
-content_sends next cut again x = tt
-content_sends next (wrong code) again x = x
-content_sends next (past n s) again x = again s
-
-behind_sends : (next : ℕ → List ℕ → Part) (sum : ℕ) (p : Part) → ((n : ℕ) (s : List ℕ) → PartSends (next n s)) → PartSends p → PartSends (behind_line next sum p)
-unfolding PartSends sent_test
-behind_sends next sum cut again x = tt
-behind_sends next sum (wrong code) again x = x
-behind_sends next sum (past size s) again x =
-    part_if (nat_lt BODY_LIMIT (sum + size)) (wrong CONTENT_TOO_LARGE) _ (sent_of CONTENT_TOO_LARGE refl)
-    (part_if (size == 0) (trailers s) (behind_content (next (sum + size)) (line_end 0 (drop size s))) (trailers_send s)
-    (content_sends (next (sum + size)) (line_end 0 (drop size s)) (again (sum + size)) (end_sends 0 (drop size s))))
-
-chunks_send : (k sum : ℕ) (s : List ℕ) → PartSends (chunks k sum s)
-unfolding PartSends chunks sent_test
-chunks_send zero sum s = sent_of CONTENT_TOO_LARGE refl
-chunks_send (suc k) sum s = behind_sends (chunks k) sum (chunk_line s) (chunks_send k) (chunk_sends s)
-
-part_status : (total code : ℕ) (p : Part) → PartSends p → verdict_of total p ≡ body.refused code → IsRefusal code
-unfolding PartSends
-part_status total code cut x is = cc
-part_status total code (wrong other) x is = let same : other ≡ code = cc in subst IsRefusal same x
-part_status total code (past n rest) x is = cc
-
-length_status : (n code : ℕ) (b : Bool) → (if b then body.whole n else body.more) ≡ body.refused code → IsRefusal code
-length_status n code true is = cc
-length_status n code false is = cc
-
--- a body that is refused is so with a status that can be sent
 pub body_status : (framing : Framing) (s : List ℕ) (code : ℕ) → body_of framing s ≡ body.refused code → IsRefusal code
-body_status framings.None s code is = cc
-body_status (framings.Length n) s code is = length_status n code (nat_le n (length s)) is
-body_status framings.Chunked s code is = part_status (length s) code (chunked s) (chunks_send (BODY_LIMIT + 1) 0 s) is
+body_status framing s code is = can_refuse code (body_refuses framing s code is)

@@ -1,13 +1,14 @@
--- What was written, piece by piece.
-use Rattle.std.specs.Prelude.{◌||◌, nat_lt}
+-- What was written, piece by piece, and what it makes of a connection.
+use Rattle.std.proofs.Common.{◌≡◌, ◌≢◌, ℕ, ◌+◌, ◌-◌, ◌<◌, ◌≤◌, List, [], ◌++◌, length, take, drop, Option, Some, None, option_map, refl, sym, ap, ◌∙◌, append_assoc, append-nil, length-append, length-drop, subst, arith, inl, inr}
+use Rattle.std.specs.Prelude.{IfSome, min, nat_lt, Bool, true, false, if◌then◌else◌, ◌⊎◌, ◌||◌}
 use Rattle.std.proofs.lemmas.Bool.Decides.{nat_tests}
-use Rattle.std.proofs.Common.{Bool, true, false, ◌∷◌, ◌≡◌, ◌≢◌, ℕ, ◌+◌, ◌-◌, ◌<◌, ◌≤◌, List, [], ◌++◌, length, take, drop, Option, Some, None, option_map, refl, sym, ap, ◌∙◌, append_assoc, append-nil, length-append, length-drop, subst, arith}
 use Rattle.std.proofs.lemmas.List.{take_rest, take-append-drop, drop_all}
 use Rattle.std.proofs.Math.Seq.{take-add}
 use Rattle.outside.specs.Causes.{LinkTold, Wrote}
-use Rattle.outside.specs.Counts.{Counts}
+use Rattle.outside.specs.Counts.{Counts, full, more_by_one}
 use Rattle.outside.specs.declared.link.WriteOut.TheVariants as write
-use Rattle.conn_loop.specs.Outgoing.{Outgoing, pending_of, is_held, is_crowded, is_full}
+use Rattle.conn_loop.specs.Moves.{Sends, waits_after}
+use Rattle.conn_loop.specs.Standing.{Standing, Counted}
 use Rattle.conn_loop.specs.declared.writing.WriteEnd.{WriteEnd}
 use Rattle.conn_loop.specs.declared.writing.WriteEnd.TheVariants.{All, Waits, Fails}
 use Rattle.conn_loop.specs.Writing.{Ran, Writes, Leaves, CountsWait}
@@ -79,122 +80,59 @@ writes_whole xs at k l all first = record {
 pub some_left : (xs : List ℕ) (at : ℕ) → at < length xs → 0 < length (drop at xs)
 some_left xs at inside = omega (arith, length-drop at xs)
 
--- the whole of a part was written, and then of the part behind it as far as its end
-pub writes_then : (end : WriteEnd) (a b c : List ℕ) (wrote : List ℕ) (k l m : LinkTold) → Writes All a wrote k l → Writes end b c l m → Writes end (a ++ b) (wrote ++ c) k m
-writes_then end a b c wrote k l m first second = record {
-  front = first.front ++ second.front;
-  split = ap (λ (t : List ℕ). t ++ b) first.split ∙ rw (first.left, append-nil) (ap (λ (t : List ℕ). first.front ++ t) second.split ∙ sym (append_assoc first.front second.front c));
-  left = rw first.left second.left;
-  ran = ran_then end first.front second.front k l m first.ran second.ran;
+-- ---- counts
+
+bytes_told : (old new : Option (List ℕ)) (front : List ℕ) (was now : ℕ) → new ≡ option_map (λ s. s ++ front) old → now ≡ min (was + length front) full
+    → IfSome old (λ s. was ≡ min (length s) full) → IfSome new (λ s. now ≡ min (length s) full)
+bytes_told None None front was now is sum x = tt
+bytes_told None (Some s) front was now is sum x = cc
+bytes_told (Some s) None front was now is sum x = cc
+bytes_told (Some s) (Some t) front was now is sum x =
+    let same : t ≡ s ++ front = cc in
+    let long : length t ≡ length s + length front = ap (λ (v : List ℕ). length v) same ∙ length-append s front in
+    omega (arith, long, sum, x)
+
+-- a count that rises by one, and another that stays
+more_cases : (n : ℕ) → ((n < full) × (more_by_one n ≡ n + 1)) ⊎ ((full ≤ n) × (more_by_one n ≡ n))
+more_cases n = elim (nat_lt n full) as (λ (b : Bool). nat_lt n full ≡ b → ((n < full) × ((if b then n + 1 else n) ≡ n + 1)) ⊎ ((full ≤ n) × ((if b then n + 1 else n) ≡ n))) [
+  | true ↦ λ is. inl (grind (arith, nat_tests), refl)
+  | false ↦ λ is. inr (grind (arith, nat_tests), refl)
+] refl
+
+pub one_more : (a b c d was : ℕ) → (d ≡ more_by_one b) × (c ≡ a) → was ≡ min (a + b) full → min (was + 1) full ≡ min (c + d) full
+one_more a b c d was counts x = elim (more_cases b) [
+  | inl y ↦ omega (arith, counts.0, counts.1, x, y.0, y.1)
+  | inr y ↦ omega (arith, counts.0, counts.1, x, y.0, y.1)
+]
+
+waits_told : (end : WriteEnd) (old new : Counts) (was : ℕ) → CountsWait end old new → was ≡ min (old.reads + old.writes) full
+    → waits_after end was ≡ min (new.reads + new.writes) full
+waits_told All old new was counts x = rw counts x
+waits_told Waits old new was counts x = one_more old.reads old.writes new.reads new.writes was counts x
+waits_told Fails old new was counts x = rw counts x
+
+-- the counts of a connection go on being its link's
+pub sends_counted : (end : WriteEnd) (old new : Standing) (link later : LinkTold) → Sends end old new link later → Counted old link → Counted new later
+sends_counted end old new link later x c = record {
+  waits = x.waits ∙ waits_told end link.waits later.waits old.waits x.writes.ran.waited c.waits;
+  bytes = bytes_told link.sent later.sent x.writes.front old.bytes new.bytes x.writes.ran.sends x.bytes c.bytes;
 }
 
-leaves_more : (end : WriteEnd) (a b : List ℕ) → end ≢ All → Leaves end a → Leaves end (a ++ b)
-leaves_more All a b some leaves = absurd (some refl)
-leaves_more Waits a b some leaves = omega (arith, length-append a b, leaves)
-leaves_more Fails a b some leaves = omega (arith, length-append a b, leaves)
-
--- ---- what is to be written, as a whole
-
--- a front of a list was written
-pub record Fronts (end : WriteEnd) (old new : List ℕ) (k l : LinkTold) : Type 0 where
-  pub front : List ℕ
-  pub split : old ≡ front ++ new
-  pub ran : Ran end front k l
-
-fronts_then : (end : WriteEnd) (a b c : List ℕ) (k l m : LinkTold) → Fronts All a b k l → Fronts end b c l m → Fronts end a c k m
-fronts_then end a b c k l m first second = record {
-  front = first.front ++ second.front;
-  split = first.split ∙ ap (λ (t : List ℕ). first.front ++ t) second.split ∙ sym (append_assoc first.front second.front c);
-  ran = ran_then end first.front second.front k l m first.ran second.ran;
-}
-
--- the front of what is gathered is the front of all
-fronts_gathered : (end : WriteEnd) (a b : Outgoing) (k l : LinkTold) → Writes end a.gathered b.gathered k l → b ≡ record a { gathered = b.gathered }
-    → Fronts end (pending_of a) (pending_of b) k l
-fronts_gathered end a b k l first same = record {
-  front = first.front;
-  split = ap (λ (t : List ℕ). t ++ (a.head ++ a.content)) first.split ∙ append_assoc first.front b.gathered (a.head ++ a.content)
-      ∙ ap (λ (v : Outgoing). first.front ++ (b.gathered ++ (v.head ++ v.content))) (sym same);
-  ran = first.ran;
-}
-
--- where nothing is gathered, the front of what stands beside is the front of all
-fronts_held : (end : WriteEnd) (a b : Outgoing) (k l : LinkTold) → a.gathered ≡ [] → b.gathered ≡ a.gathered
-    → Writes end (a.head ++ a.content) (b.head ++ b.content) k l → Fronts end (pending_of a) (pending_of b) k l
-fronts_held end a b k l none same first = record {
-  front = first.front;
-  split = ap (λ (t : List ℕ). t ++ (a.head ++ a.content)) none ∙ first.split
-      ∙ ap (λ (t : List ℕ). first.front ++ (t ++ (b.head ++ b.content))) (sym (same ∙ none));
-  ran = first.ran;
-}
-
--- the head was written whole, and then of the content as far as its end
-pub writes_held : (end : WriteEnd) (a b c : Outgoing) (k l m : LinkTold) → Writes All a.head b.head k l → b ≡ record a { head = b.head }
-    → Writes end b.content c.content l m → c ≡ record b { content = c.content } → Writes end (a.head ++ a.content) (c.head ++ c.content) k m
-writes_held end a b c k l m first kept second same =
-    subst (λ (t : List ℕ). Writes end (a.head ++ a.content) (t ++ c.content) k m) (sym (ap (λ (v : Outgoing). v.head) same))
-    (writes_then end a.head a.content c.content b.head k l m first
-    (subst (λ (t : List ℕ). Writes end t c.content l m) (ap (λ (v : Outgoing). v.content) kept) second))
-
--- writing stopped at what is gathered
-pub stops_first : (end : WriteEnd) (a b : Outgoing) (k l : LinkTold) → end ≢ All → Writes end a.gathered b.gathered k l → b ≡ record a { gathered = b.gathered }
-    → Writes end (pending_of a) (pending_of b) k l
-stops_first end a b k l some first same =
-    let all = fronts_gathered end a b k l first same in
-    record { front = all.front; split = all.split; left = leaves_more end b.gathered (b.head ++ b.content) some first.left; ran = all.ran }
-
--- all that was gathered is written, what stood beside it is gathered, and writing stops there
-pub stops_second : (end : WriteEnd) (a b c d : Outgoing) (k l m : LinkTold) → end ≢ All → Writes All a.gathered b.gathered k l
-    → b ≡ record a { gathered = b.gathered } → pending_of c ≡ pending_of b → Writes end c.gathered d.gathered l m → d ≡ record c { gathered = d.gathered }
-    → Writes end (pending_of a) (pending_of d) k m
-stops_second end a b c d k l m some first kept moved second same =
-    let before : Fronts All (pending_of a) (pending_of c) k l =
-    subst (λ (t : List ℕ). Fronts All (pending_of a) t k l) (sym moved) (fronts_gathered All a b k l first kept) in
-    let rest = stops_first end c d l m some second same in
-    let all = fronts_then end (pending_of a) (pending_of c) (pending_of d) k l m before (record { front = rest.front; split = rest.split; ran = rest.ran }) in
-    record { front = all.front; split = all.split; left = rest.left; ran = all.ran }
-
--- all that was gathered is written, twice, and writing stops at what stands beside
-pub stops_third : (end : WriteEnd) (a b c d e : Outgoing) (k l m n : LinkTold) → Writes All a.gathered b.gathered k l
-    → b ≡ record a { gathered = b.gathered } → pending_of c ≡ pending_of b → Writes All c.gathered d.gathered l m → d ≡ record c { gathered = d.gathered }
-    → Writes end (d.head ++ d.content) (e.head ++ e.content) m n → e.gathered ≡ d.gathered → Writes end (pending_of a) (pending_of e) k n
-stops_third end a b c d e k l m n first kept moved second same third stays =
-    let before : Fronts All (pending_of a) (pending_of c) k l =
-    subst (λ (t : List ℕ). Fronts All (pending_of a) t k l) (sym moved) (fronts_gathered All a b k l first kept) in
-    let between = fronts_then All (pending_of a) (pending_of c) (pending_of d) k l m before (fronts_gathered All c d l m second same) in
-    let all = fronts_then end (pending_of a) (pending_of d) (pending_of e) k m n between (fronts_held end d e m n second.left stays third) in
+-- what was written of the output was written of the connection
+pub sends_of : (end : WriteEnd) (s old : Standing) (n : ℕ) (wrote rest : List ℕ) (bytes waits : ℕ) (k l : LinkTold) → s ≡ old → wrote ≡ s.pending → n ≤ length wrote
+    → rest ≡ drop n s.pending → Writes end wrote (drop n wrote) k l → bytes ≡ min (s.bytes + n) full → waits ≡ waits_after end s.waits
+    → Sends end old (record s { pending = rest; bytes = bytes; waits = waits }) k l
+sends_of end s old n wrote rest bytes waits k l was there fits is x counted waited =
+    let left : drop n wrote ≡ rest = ap (λ (v : List ℕ). drop n v) there ∙ sym is in
+    let long : length x.front ≡ n = omega (arith, ap (λ (v : List ℕ). length v) x.split, length-append x.front (drop n wrote), length-drop n wrote, fits) in
     record {
-      front = all.front;
-      split = all.split;
-      left = subst (λ (t : List ℕ). Leaves end (t ++ (e.head ++ e.content))) (sym (stays ∙ second.left)) third.left;
-      ran = all.ran;
+      writes = record {
+        front = x.front;
+        split = ap (λ (v : Standing). v.pending) (sym was) ∙ sym there ∙ x.split ∙ ap (λ (v : List ℕ). x.front ++ v) left;
+        left = subst (λ (v : List ℕ). Leaves end v) left x.left;
+        ran = x.ran;
+      };
+      bytes = counted ∙ ap (λ (v : ℕ). min (s.bytes + v) full) (sym long) ∙ ap (λ (v : Standing). min (v.bytes + length x.front) full) was;
+      waits = waited ∙ ap (λ (v : Standing). waits_after end v.waits) was;
+      same = ap (λ (v : Standing). record v { pending = rest; bytes = bytes; waits = waits }) was;
     }
-
--- ---- an answer that is put behind what is to be written
-
-either_none : (a b : Bool) → (a || b) ≡ false → (a ≡ false) × (b ≡ false)
-either_none true b is = cc
-either_none false b is = (refl, is)
-
-zero_of : (n : ℕ) → nat_lt 0 n ≡ false → n ≡ 0
-zero_of n is = grind (arith, nat_tests)
-
-nothing_of : (xs : List ℕ) → length xs ≡ 0 → xs ≡ []
-nothing_of [] is = refl
-nothing_of (x ∷ xs) is = absurd (omega (arith, is))
-
-held_gone : (o : Outgoing) → is_held o ≡ false → o.head ++ o.content ≡ []
-held_gone o is =
-    let parts = either_none (nat_lt 0 (length o.head)) (nat_lt 0 (length o.content)) is in
-    rw (nothing_of o.head (zero_of (length o.head) parts.0), nothing_of o.content (zero_of (length o.content) parts.1)) refl
-
--- where there is room for an answer, nothing stands beside
-pub full_held : (o : Outgoing) → is_full o ≡ false → is_held o ≡ false
-full_held o is = let parts = either_none (is_held o) (is_crowded o) is in parts.0
-
--- where nothing stood beside, an answer that was held and then gathered stands behind all
-pub put_behind : (old held new : Outgoing) (content : List ℕ) → is_held old ≡ false → held ≡ record { gathered = old.gathered; head = held.head; content = content }
-    → pending_of new ≡ pending_of held → pending_of new ≡ pending_of old ++ (held.head ++ content)
-put_behind old held new content none is moved =
-    moved ∙ ap (λ (v : Outgoing). pending_of v) is
-    ∙ ap (λ (t : List ℕ). t ++ (held.head ++ content)) (sym (append-nil old.gathered) ∙ ap (λ (t : List ℕ). old.gathered ++ t) (sym (held_gone old none)))

@@ -1,4 +1,4 @@
--- The answers to the bytes of a connection, as recursions over the whole list: request after request, at the moments of its clock.
+-- To be believed: the answers to the bytes of a connection, as recursions over the whole list: request after request, at the moments of its clock.
 use Rattle.std.specs.Prelude.{◌≡◌, ℕ, zero, suc, ◌+◌, Bool, true, false, not, ◌||◌, List, [], ◌∷◌, ◌++◌, drop, if◌then◌else◌, ◌==◌}
 use Rattle.conn_loop.specs.declared.limits.TheConstants.{ANSWER_LIMIT}
 use Rattle.conn_loop.specs.Turns.{Turn, unfinished, refused, whole, turn_of, interim_of}

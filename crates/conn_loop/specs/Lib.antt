@@ -1,13 +1,13 @@
 pub mod Answers
 pub mod Causes
+pub mod Ends
 pub mod Heads
 pub mod Moves
-pub mod Outgoing
 pub mod Phases
-pub mod Replies
 pub mod Replying
 pub mod Stages
 pub mod Standing
 pub mod Steps
+pub mod Supplies
 pub mod Turns
 pub mod Writing

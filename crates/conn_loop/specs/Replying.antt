@@ -1,4 +1,4 @@
--- The replies of an application over the folder of the files, where that folder is told.
+-- To be believed: the replies of an application over the folder of the files, where that folder is told.
 use Rattle.std.specs.Prelude.{Option, option_map}
 use Rattle.outside.specs.Folder.{Folder}
 use Rattle.warp_request.specs.Verdict.{Asked}
@@ -15,13 +15,18 @@ request_of a = record { method = a.method; target = a.target; minor = a.minor }
 abbrev pub Replying : Type 0
 Replying = Asked → Reply
 
--- the replies of an application with these moves over a folder
-unfoldable pub replies_of : Moves → Folder → Replying
-replies_of moves folder a = reply_to moves folder (request_of a)
+-- an application with these moves, over this folder
+pub record Serving : Type 0 where
+  pub moves : Moves
+  pub folder : Folder
 
--- the same, where the folder is told
-abbrev pub replying : Moves → Option Folder → Option Replying
-replying moves folder = option_map (replies_of moves) folder
+-- its replies
+unfoldable pub replies : Serving → Replying
+replies serving a = reply_to serving.moves serving.folder (request_of a)
+
+-- an application over the folder of the files, where that folder is told
+abbrev pub serving_over : Moves → Option Folder → Option Serving
+serving_over moves folder = option_map (λ f. record { moves = moves; folder = f }) folder
 
 -- what is replied to each head with the files of this folder
 unfoldable pub folder_replies : Folder → Replying

@@ -1,4 +1,4 @@
--- What the bytes of a connection begin with, head and body together, and what is answered before the body.
+-- To be believed: what the bytes of a connection begin with, head and body together, and what is answered before the body.
 use Rattle.std.specs.Prelude.{ℕ, ◌+◌, List, [], drop, if◌then◌else◌}
 use Rattle.warp_request.specs.Body.{BodyVerdict, body_of}
 use Rattle.warp_request.specs.Body as body

@@ -1,4 +1,4 @@
--- What a run of writes did to a part of what is to be written, and to the link.
+-- Inner: what a run of writes did to a part of what is to be written, and to the link.
 use Rattle.std.specs.Prelude.{◌≡◌, ℕ, ◌<◌, ◌≤◌, List, [], ◌++◌, length, option_map}
 use Rattle.outside.specs.Causes.{LinkTold}
 use Rattle.outside.specs.Counts.{Counts, Rises, more_by_one}

@@ -1,14 +1,16 @@
-// Bodies, read where they lie: content is passed over in the input buffer, and what was passed over makes room for more.
-ghost use Rattle.std.specs.Prelude.{◌≡◌, ◌≤◌, ◌+◌, ◌-◌, ◌*◌, ◌++◌, List, ℕ, None, true, length, take, drop};
-ghost use Rattle.warp_request.specs.BodyReader.{StandsFor};
+//! Bodies, read where they lie: content is passed over in the input buffer, and what was passed over makes room for more.
+ghost use Rattle.std.specs.Prelude.{◌≡◌, ◌≤◌, ◌+◌, ◌-◌, ◌*◌, ◌++◌, List, ℕ, Option, None, true, length, take, drop};
+ghost use Rattle.warp_request.specs.BodyReader.{Represents as Reads};
 ghost use Rattle.warp_request.specs.Next.{next_of};
 ghost use Rattle.warp_request.specs.Verdict.{asked};
 ghost use Rattle.conn_loop.specs.Heads.{asked_in};
-ghost use Rattle.conn_loop.specs.Phases.{HasHead, IsKept, stage_in, over_in};
+ghost use Rattle.conn_loop.specs.Phases.{HasHead, IsKept, HasLease, over_in, stage_in};
+ghost use Rattle.conn_loop.specs.Steps.{IsBegun};
 ghost use Rattle.conn_loop.specs.Stages.{HasRoom, IsReadUp, LiesAhead, most_of, steps_left};
 
 use crate::buffer::Buffer;
 use crate::phase::Phase;
+use app_trait::Seen;
 use warp_request::{BodyReader, BodyState, Framing, HeadInfo};
 
 /// A chunked body has fewer bytes: each of its chunks has content, of at most 1 MiB in all, and besides that a line of at
@@ -37,14 +39,15 @@ pub(crate) fn read_on(
     requires head { HasHead input.old head }
     requires counted { HasRoom reader head.framing room }
     // The bytes that aren't answered are the same, and it stands so with the request at their front.
-    ensures lies { (fed ahead : List ℕ) → StandsFor reader head.framing fed
+    ensures lies { (fed ahead : List ℕ) → Reads reader head.framing fed
         → ahead ≡ take head.head_len input.old ++ (fed ++ drop head.head_len input.old)
         → ((t : List ℕ) → next_of (ahead ++ t) ≡ asked (asked_in input.old head))
-        → LiesAhead (stage_in input.new result) true input.new ahead }
-    ensures kept { IsKept input.new result }
-    ensures read { IsReadUp (stage_in input.new result) input.new }
-    ensures nearer { steps_left (stage_in input.new result) input.new ≤ 2 * room + (1 - length (drop head.head_len input.old)) }
+        → (path : List ℕ) → LiesAhead (stage_in input.new path result) true input.new ahead }
+    ensures kept { (left : ℕ) (size : Option ℕ) → IsKept input.new left result × HasLease result size }
+    ensures read { (path : List ℕ) → IsReadUp (stage_in input.new path result) input.new }
+    ensures nearer { (path : List ℕ) → steps_left (stage_in input.new path result) input.new ≤ 2 * room + (1 - length (drop head.head_len input.old)) + 6 }
     ensures over { over_in result ≡ None }
+    ensures begun { (path : List ℕ) → IsBegun (stage_in input.new path result) }
 {
     let fed = reader.feed(&input.bytes()[head.head_len..]);
     match fed.state {
@@ -59,6 +62,7 @@ pub(crate) fn read_on(
         BodyState::Whole => Phase::Ready {
             head,
             behind: fed.used,
+            seen: Seen::Nothing,
         },
         BodyState::Refuse(code) => Phase::Refused(code),
     }

@@ -1,80 +1,88 @@
-// One connection, brought as far as the link, the files and the memory let it go.
-ghost use Rattle.std.specs.Prelude.{◌≡◌, ◌≤◌, ◌<◌, ◌+◌, ◌↔◌, IsTrue, Bool, [], Option, Some, None, IfOk, IfSome, IfNone};
-ghost use Rattle.conn_loop.specs.Causes.{HasFault, CountsWaits, Clocked, Keeps, end_of};
-ghost use Rattle.conn_loop.specs.Replying.{Replying, replying};
-ghost use Rattle.conn_loop.specs.Standing.{Stands, StandsFor, IsPrefixFor, SaysFor, GoesOn, at_first};
-ghost use Rattle.conn_loop.specs.Steps.{ComesFor, GoesOver, stage_kept, to_go};
+//! One connection, brought as far as the link and the files let it go.
+ghost use Rattle.std.specs.Prelude.{◌≡◌, ◌≤◌, ◌<◌, ◌+◌, ◌↔◌, ℕ, IsTrue, [], Option, Some, None, IfOk, IfSome, IfNone, length};
+ghost use Rattle.outside.specs.Causes.{IsFresh, LinkTold};
+ghost use Rattle.app_trait.specs.Moves.{Moves};
+ghost use Rattle.conn_loop.specs.Causes.{IsCaused, CountsWaits, Clocked, Keeps, end_of};
+ghost use Rattle.conn_loop.specs.Replying.{serving_over};
+ghost use Rattle.conn_loop.specs.Standing.{Represents, StepImpliesFor, AsksFor, Counted, IsAsking, at_first};
+ghost use Rattle.conn_loop.specs.Steps.{ComesFor, DutyOf, Goes, GoesOver, IsPlain, Proceeds, stage_kept, to_go};
 
 mod answering;
+mod lending;
 mod reading;
+mod sending;
+mod writing;
 
 use crate::buffer::Buffer;
 use crate::limits::ANSWER_LIMIT;
-use crate::output::Output;
-use crate::phase::{Ahead, Phase};
+use crate::phase::{Ahead, Duty, Phase};
+use crate::scratch::Scratch;
 use crate::step::{End, Step};
 use app_trait::App;
+use fd_cache::Lease;
 use outside::{Clock, Files, Link};
 use path_rules::PathBuf8;
 use std::alloc::{AllocError, Global};
-use std::marker::{Model, PhantomData};
-use warp_request::Scratch;
+use std::marker::Model;
 
-/// One connection: its buffers, and how far it has come.
+/// One connection: its buffers, the file that is lent to it, and how far it has come.
 #[derive(Drop)]
-pub struct Conn<F> {
+pub struct Conn<F: Files> {
     input: Buffer,
-    output: Output,
+    output: Buffer,
     path: PathBuf8,
+    lease: Option<Lease<F>>,
     moments: Vec<u64>,
     left: u32,
     phase: Phase,
-    alloc: Global,
-    of: PhantomData<F>,
+    bytes: u64,
+    waits: u64,
 }
 
-impl<F> Model for Conn<F> {
-    ghost use Rattle.std.specs.Prelude.{◌≡◌, ◌≤◌, ◌+◌, vec_len, vec_capacity};
+impl<F: Files> Model for Conn<F> {
+    ghost use Rattle.std.specs.Prelude.{◌≡◌, ◌≤◌, ◌+◌, vec_len, vec_capacity, option_map};
     ghost use Rattle.conn_loop.specs.Standing.{Standing};
 
     ghost Value = { Standing };
 
-    ghost use Rattle.conn_loop.specs.Outgoing.{pending_of, is_full};
-    ghost use Rattle.conn_loop.specs.Phases.{over_in, stage_in, IsKept};
+    ghost use Rattle.conn_loop.specs.Phases.{over_in, stage_in, IsKept, HasLease};
 
     ghost view = { λ a. record {
       input = a.input;
-      stage = stage_in a.input a.phase;
-      pending = pending_of a.output;
-      full = is_full a.output;
+      stage = stage_in a.input a.path a.phase;
+      pending = a.output;
+      lease = option_map (λ lease. F.file_path lease.file) a.lease;
       moments = a.moments.items;
       left = a.left;
       over = over_in a.phase;
+      bytes = a.bytes;
+      waits = a.waits;
     } };
 
-    ghost invariant = { λ a. (vec_len a.moments + a.left ≤ 1000) × (1000 ≤ vec_capacity a.moments) × IsKept a.input a.phase };
+    ghost invariant = { λ a. (vec_len a.moments + a.left ≤ 1000) × (1000 ≤ vec_capacity a.moments)
+        × IsKept a.input a.left a.phase × HasLease a.phase (option_map (λ lease. lease.size) a.lease) };
 }
 
 impl<F: Files> Conn<F> {
-    /// A connection that has read nothing and written nothing. All its memory is taken here, but for the content of
-    /// files; an error is want of memory.
+    /// A connection that has read nothing and written nothing. All its memory is taken here; an error is want of memory.
     pub fn new(alloc: Global) -> Result<Conn<F>, AllocError>
         ensures is { IfOk result (λ conn. conn ≡ at_first) }
-        ensures stands { IfOk result (λ conn. (reply : Replying) (ended : Option Bool) → GoesOn ended → Stands reply conn [] [] ended) }
+        ensures represents { IfOk result (λ conn. (moves : Moves) (link : LinkTold) → IsFresh link → Represents moves F.folder conn link) }
     {
         let input = Buffer::new(alloc)?;
-        let output = Output::new(alloc)?;
+        let output = Buffer::new(alloc)?;
         let path = PathBuf8::new(alloc)?;
         let moments = Vec::with_capacity(alloc, ANSWER_LIMIT as usize)?;
         Ok(Conn {
             input,
             output,
             path,
+            lease: None,
             moments,
             left: ANSWER_LIMIT,
             phase: Phase::Fresh,
-            alloc,
-            of: PhantomData,
+            bytes: 0,
+            waits: 0,
         })
     }
 
@@ -85,9 +93,10 @@ impl<F: Files> Conn<F> {
         &self.moments
     }
 
-    /// Brings the connection as far as it goes: reads, answers and writes until the link must be waited for or the
-    /// connection is over. The caller owes the link, the files and the application of the calls before, and a link that
-    /// hasn't ended unless the connection is over. After `Done` every later call answers the same and touches nothing.
+    /// Brings the connection as far as it goes: reads, answers and writes until the link must be waited for, a file is wanted
+    /// or the connection is over. It takes no memory. The caller owes the link, the files and the application of the calls
+    /// before, and a link that hasn't ended unless the connection is over. After `Done` every later call answers the same and
+    /// touches nothing.
     pub fn advance<L: Link, A: App, C: Clock>(
         &mut self,
         link: &mut L,
@@ -96,24 +105,23 @@ impl<F: Files> Conn<F> {
         clock: &mut C,
         scratch: &mut Scratch,
     ) -> Step
-        requires { StandsFor (replying (A.moves app.now) F.folder) self.old (L.told link.old) }
-        // The connection stands for what the link has taken and sent.
-        ensures stands { StandsFor (replying (A.moves app.now) F.folder) self.new (L.told link.new) }
-        // What was sent is a prefix of the answers to what was taken.
-        ensures prefix { IsPrefixFor (replying (A.moves app.now) F.folder) self.new (L.told link.new) }
-        // Each step comes exactly where this holds of the bytes.
-        ensures says { SaysFor result (replying (A.moves app.now) F.folder) self.new (L.told link.new) }
+        requires { Represents (A.moves app.now) F.folder self.old (L.told link.old) }
+        // The connection stands for what the link has taken and sent, so that what was sent is a prefix of the answers.
+        ensures represents { Represents (A.moves app.now) F.folder self.new (L.told link.new) }
+        // What each step says of the bytes. A clean end and a cut come exactly where this holds.
+        ensures implies { StepImpliesFor result (serving_over (A.moves app.now) F.folder) self.new (L.told link.new) }
         // The moments are those that the clock gave, whose stillness stays.
         ensures clocked { Clocked self.old self.new (C.told clock.old) (C.told clock.new) }
-        // A fault comes only where the count of its own object and direction rose in this call.
-        ensures cause { IfNone self.old.over (HasFault result (L.told link.old) (L.told link.new) (F.told files.old) (F.told files.new)) }
-        // A wait is answered exactly where the link told one of that direction, and there is at most one.
-        ensures waited { CountsWaits result (L.told link.old) (L.told link.new) }
-        // What ended stays so, and touches nothing.
-        ensures over { (self.new.over ≡ end_of result) × IfSome self.old.over (λ end.
+        // A fault comes only where the count of its own object and direction rose, want of memory only where it was supplied.
+        ensures caused { IfNone self.old.over (IsCaused result self.old self.new (L.told link.old) (L.told link.new) (F.told files.old) (F.told files.new)) }
+        // A wait is answered exactly where the link told one of that direction, and there is at most one. The counts of bytes
+        // and waits go on being the link's.
+        ensures counted { CountsWaits result (L.told link.old) (L.told link.new) × (Counted self.old (L.told link.old) → Counted self.new (L.told link.new)) }
+        // What ended stays so, and touches nothing; a file is wanted exactly where one is asked for.
+        ensures over { (self.new.over ≡ end_of result) × ((result ≡ Step.WantFile) ↔ IsAsking self.new) × IfSome self.old.over (λ end.
             (result ≡ Step.Done end) × (self.new ≡ self.old) × (link.new ≡ link.old) × (files.new ≡ files.old) × (clock.new ≡ clock.old)) }
-        // What the link plans, the root and the firmness of the files stay, and no count of faults falls.
-        ensures keeps { Keeps (L.told link.old) (L.told link.new) (F.told files.old) (F.told files.new) }
+        // What the link plans and all that files tell but faults stay, no count of faults falls, and the steps left don't grow.
+        ensures keeps { Keeps (L.told link.old) (L.told link.new) (F.told files.old) (F.told files.new) × (to_go self.new ≤ to_go self.old) }
     {
         if let Some(end) = self.over() {
             return Step::Done(end);
@@ -125,7 +133,8 @@ impl<F: Files> Conn<F> {
 
     /// How the connection ended, once it has.
     fn over(&self) -> Option<End>
-        ensures { result ≡ self.now.over }
+        ensures is { result ≡ self.now.over }
+        ensures quiet { IfSome result (λ end. ¬ IsAsking self.now) }
     {
         match self.phase {
             Phase::Over(end) => Some(end),
@@ -153,18 +162,19 @@ impl<F: Files> Conn<F> {
         scratch: &mut Scratch,
     ) -> Step
         requires running { self.old.over ≡ None }
-        requires stands { ComesFor None (replying (A.moves app.now) F.folder) self.old (L.told link.old) }
-        ensures stands { ComesFor (Some result) (replying (A.moves app.now) F.folder) self.new (L.told link.new) }
-        ensures running { self.new.over ≡ None }
+        requires stands { ComesFor None (serving_over (A.moves app.now) F.folder) self.old (L.told link.old) }
+        requires asks { AsksFor (A.moves app.now) self.old.stage }
+        ensures stands { ComesFor (Some result) (serving_over (A.moves app.now) F.folder) self.new (L.told link.new) }
+        ensures proceeds { Proceeds (A.moves app.now) (Some result) self.old self.new }
+        ensures nearer { to_go self.new ≤ to_go self.old }
         ensures clocked { Clocked self.old self.new (C.told clock.old) (C.told clock.new) }
-        ensures goes { GoesOver (Some result) (L.told link.old) (L.told link.new) (F.told files.old) (F.told files.new) }
+        ensures goes { GoesOver (Some result) self.old self.new (L.told link.old) (L.told link.new) (F.told files.old) (F.told files.new) }
     {
-        'requests: while !self.is_closed() {
+        'requests: loop {
             if let Some(step) = self.step(link, files, app, clock, scratch) {
                 return step;
             }
         }
-        self.end(link, End::Clean)
     }
 
     /// One step towards the next answer. `None` comes where the connection goes on.
@@ -177,13 +187,55 @@ impl<F: Files> Conn<F> {
         scratch: &mut Scratch,
     ) -> Option<Step>
         requires running { self.old.over ≡ None }
-        requires some { 0 < self.old.left }
-        ensures stands { ComesFor None (replying (A.moves app.now) F.folder) self.old (L.told link.old)
-            → ComesFor result (replying (A.moves app.now) F.folder) self.new (L.told link.new) }
-        ensures running { self.new.over ≡ None }
-        ensures nearer { IfNone result (to_go self.new < to_go self.old) }
+        requires asks { AsksFor (A.moves app.now) self.old.stage }
+        ensures stands { ComesFor None (serving_over (A.moves app.now) F.folder) self.old (L.told link.old)
+            → ComesFor result (serving_over (A.moves app.now) F.folder) self.new (L.told link.new) }
+        ensures proceeds { Proceeds (A.moves app.now) result self.old self.new }
+        ensures nearer { (to_go self.new ≤ to_go self.old) × IfNone result (to_go self.new < to_go self.old) }
         ensures clocked { Clocked self.old self.new (C.told clock.old) (C.told clock.new) }
-        ensures goes { GoesOver result (L.told link.old) (L.told link.new) (F.told files.old) (F.told files.new) }
+        ensures goes { GoesOver result self.old self.new (L.told link.old) (L.told link.new) (F.told files.old) (F.told files.new) }
+    {
+        match self.duty() {
+            Duty::Answer => self.answer_next(link, app, clock, scratch),
+            Duty::Wait => Some(Step::WantFile),
+            Duty::Send => self.send_part(link, files),
+            Duty::End(end) => Some(self.end(link, end)),
+        }
+    }
+
+    /// What is to be done next.
+    fn duty(&self) -> Duty
+        requires running { self.now.over ≡ None }
+        ensures { DutyOf result self.now }
+    {
+        match self.phase {
+            Phase::Wanting { .. } => Duty::Wait,
+            Phase::Sending { .. } => Duty::Send,
+            Phase::Unmade(end) => Duty::End(end),
+            Phase::Broken(_) => Duty::End(End::FileFault),
+            Phase::Over(_) => unreachable!(),
+            _ if self.left == 0 => Duty::End(End::Clean),
+            _ => Duty::Answer,
+        }
+    }
+
+    /// One step towards the answer to what is ahead.
+    fn answer_next<L: Link, A: App, C: Clock>(
+        &mut self,
+        link: &mut L,
+        app: &A,
+        clock: &mut C,
+        scratch: &mut Scratch,
+    ) -> Option<Step>
+        requires some { 0 < self.old.left }
+        requires plain { IsPlain self.old.stage }
+        requires asks { AsksFor (A.moves app.now) self.old.stage }
+        ensures stands { ComesFor None (serving_over (A.moves app.now) F.folder) self.old (L.told link.old)
+            → ComesFor result (serving_over (A.moves app.now) F.folder) self.new (L.told link.new) }
+        ensures proceeds { Proceeds (A.moves app.now) result self.old self.new }
+        ensures nearer { (to_go self.new ≤ to_go self.old) × IfNone result (to_go self.new < to_go self.old) }
+        ensures clocked { Clocked self.old self.new (C.told clock.old) (C.told clock.new) }
+        ensures goes { Goes result self.old self.new (L.told link.old) (L.told link.new) }
     {
         if let Some(step) = self.make_room(link) {
             return Some(step);
@@ -195,17 +247,10 @@ impl<F: Files> Conn<F> {
             }
             Ahead::Unfinished => self.read_more(link),
             Ahead::Refused(code) => {
-                self.refuse(clock, code);
+                self.refuse(clock, scratch, code);
                 None
             }
-            Ahead::Whole => self.respond(link, files, app, clock),
+            Ahead::Whole => self.respond(link, app, clock, scratch),
         }
-    }
-
-    /// Whether no final answer may follow.
-    fn is_closed(&self) -> bool
-        ensures { IsTrue result ↔ (self.now.left ≡ 0) }
-    {
-        self.left == 0
     }
 }

@@ -1,9 +1,12 @@
-// What holds of the answers as they are defined, whatever computes them.
+//! What holds of the answers as they are defined, whatever computes them.
 ghost use Rattle.std.specs.Prelude.{◌≡◌, ◌≤◌, ◌++◌, ℕ, List, [], Option, length};
 ghost use Rattle.outside.specs.Causes.{LinkTold};
 ghost use Rattle.conn_loop.specs.Answers.{BeginsWith, IsClosed, IsOpen, answers_of, finals_of};
 ghost use Rattle.conn_loop.specs.Replying.{Replying};
-ghost use Rattle.conn_loop.specs.Standing.{IsPrefixFor, Standing, StandsFor};
+ghost use Rattle.outside.specs.Folder.{Folder};
+ghost use Rattle.app_trait.specs.Moves.{Moves};
+ghost use Rattle.conn_loop.specs.Replying.{serving_over};
+ghost use Rattle.conn_loop.specs.Standing.{Represents, SendsPrefixFor, Standing};
 
 /// Where more bytes come, the answers go on: what was answered stays.
 pub fn answers_grow_with_bytes()
@@ -34,5 +37,6 @@ pub fn nothing_is_open()
 
 /// What a connection has sent is a prefix of the answers, also between its calls.
 pub fn sent_is_a_prefix()
-    ensures { (reply : Option Replying) (conn : Standing) (link : LinkTold) → StandsFor reply conn link → IsPrefixFor reply conn link }
+    ensures { (moves : Moves) (folder : Option Folder) (conn : Standing) (link : LinkTold) → Represents moves folder conn link
+        → SendsPrefixFor (serving_over moves folder) conn link }
 {}

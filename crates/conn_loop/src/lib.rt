@@ -1,23 +1,22 @@
-// One connection, from the bytes read to the bytes written: request after request, in order, for any cutting of the
-// input. A `Conn` owns all that it needs of memory but the content of a file; the link, the files, the clock and the
-// application are lent to it for each call. Answers that are ready together are written together.
-//
-// The promise: after each `advance` the bytes written are a prefix of the answers to the bytes read, in order, at the
-// moments that the clock gave, and all of them wherever the connection waits for more or ends cleanly.
+//! One connection, from the bytes read to the bytes written: request after request, in order, for any cutting of the input. A
+//! `Conn` owns all the memory that it needs; the link, the files, the clock, the application and a scratch are lent to it for
+//! each call. It opens no file: it asks for one by its path, and is supplied with a lease. Answers that are ready together are
+//! written together, and content is read into the room of what is written, part by part.
+//!
+//! The promise: after each `advance` the bytes written are a prefix of the answers to the bytes read, in order, at the
+//! moments that the clock gave, and all of them wherever the connection waits for more or ends cleanly.
 #![tactic(auto)]
 
-mod answered;
 mod bodies;
 mod buffer;
+mod closing;
 mod conn;
 mod laws;
 mod limits;
-mod output;
 mod phase;
-mod replies;
+mod scratch;
 mod step;
-#[cfg(test)]
-mod tests;
+mod supply;
 mod writing;
 
 pub use conn::Conn;
@@ -26,4 +25,9 @@ pub use laws::{
     nothing_is_open, sent_is_a_prefix,
 };
 pub use limits::ANSWER_LIMIT;
+pub use scratch::Scratch;
 pub use step::{End, Step};
+pub use supply::{Closing, Supply};
+
+#[cfg(test)]
+mod tests;

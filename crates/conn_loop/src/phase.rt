@@ -1,9 +1,13 @@
-// What a connection keeps of its input between calls, so that no input is parsed twice and no body is kept.
-ghost use Rattle.std.specs.Prelude.{◌≡◌, ◌≤◌, List, ℕ, length};
-ghost use Rattle.conn_loop.specs.Phases.{IsKept, over_in, stage_in};
+//! What a connection keeps of its input between calls, so that no input is parsed twice and no body is kept.
+ghost use Rattle.std.specs.Prelude.{◌≡◌, ◌≤◌, List, ℕ, Option, length};
+ghost use Rattle.conn_loop.specs.Phases.{IsKept, HasLease, over_in, stage_in};
+ghost use Rattle.conn_loop.specs.Moves.{got_len};
 ghost use Rattle.conn_loop.specs.Stages.{grown};
+ghost use Rattle.conn_loop.specs.Steps.{stage_after};
 
 use crate::step::End;
+use app_trait::Seen;
+use outside::ReadOut;
 use warp_request::{BodyReader, HeadInfo};
 
 /// Where a connection stands.
@@ -17,7 +21,7 @@ pub(crate) enum Phase {
     Reading {
         head: HeadInfo,
         reader: BodyReader,
-        /// At most so many more bytes are its.
+        /// The most bytes that may still belong to the body.
         room: u64,
     },
     /// The input is refused with this status.
@@ -27,17 +31,51 @@ pub(crate) enum Phase {
         head: HeadInfo,
         /// The bytes of the input behind the head that are its.
         behind: usize,
+        /// What its looks for files have found.
+        seen: Seen,
     },
+    /// The same, and a look is asked for.
+    Wanting {
+        head: HeadInfo,
+        behind: usize,
+        seen: Seen,
+    },
+    /// The content of the lease's file is sent.
+    Sending {
+        /// What was read of it.
+        at: u64,
+        /// Its length.
+        size: u64,
+    },
+    /// The request that is whole can't be answered: once what was made is written, the connection ends so.
+    Unmade(End),
+    /// The file failed whose content was read so far: once what was made is written, the connection ends.
+    Broken(u64),
     /// The connection is over, and every later call answers this.
     Over(End),
 }
 
 impl Phase {
-    /// More bytes came behind the input: what was too little to say is to be judged anew.
-    pub(crate) fn more_came(&mut self)
-        ensures stage { (input : List ℕ) → stage_in input self.new ≡ grown (stage_in input self.old) }
+    /// What was read behind the input is judged anew, where what was there was too little to say.
+    pub(crate) fn read(&mut self, out: ReadOut)
+        ensures stage { (input path : List ℕ) → stage_in input path self.new ≡ stage_after out (stage_in input path self.old) }
         ensures over { over_in self.new ≡ over_in self.old }
-        ensures kept { (input longer : List ℕ) → length input ≤ length longer → IsKept input self.old → IsKept longer self.new }
+        ensures lease { (size : Option ℕ) → HasLease self.old size → HasLease self.new size }
+        ensures kept { (input longer : List ℕ) (left : ℕ) → length input ≤ length longer → (got_len out ≡ 0 → longer ≡ input)
+            → IsKept input left self.old → IsKept longer left self.new }
+    {
+        match out {
+            ReadOut::Got(_) => self.more_came(),
+            ReadOut::End | ReadOut::NotYet | ReadOut::Failed => {}
+        }
+    }
+
+    /// More bytes came behind the input: what was too little to say is to be judged anew.
+    fn more_came(&mut self)
+        ensures stage { (input path : List ℕ) → stage_in input path self.new ≡ grown (stage_in input path self.old) }
+        ensures over { over_in self.new ≡ over_in self.old }
+        ensures lease { (size : Option ℕ) → HasLease self.old size → HasLease self.new size }
+        ensures kept { (input longer : List ℕ) (left : ℕ) → length input ≤ length longer → IsKept input left self.old → IsKept longer left self.new }
     {
         if let Phase::Waits = self {
             *self = Phase::Fresh;
@@ -56,4 +94,17 @@ pub(crate) enum Ahead {
     Refused(u16),
     /// A whole request is to be answered.
     Whole,
+}
+
+/// What a connection is to do next.
+#[derive(Clone, Copy, PartialEq, Eq, Debug)]
+pub(crate) enum Duty {
+    /// It comes to its next answer.
+    Answer,
+    /// It waits for a file.
+    Wait,
+    /// It sends the content of a file.
+    Send,
+    /// It writes what was made, and ends so.
+    End(End),
 }

@@ -1,4 +1,4 @@
-// What a connection answers when it was brought as far as it goes.
+//! What a connection answers when it was brought as far as it goes.
 
 /// How a connection ended.
 #[derive(Clone, Copy, Debug, PartialEq, Eq)]
@@ -13,7 +13,7 @@ pub enum End {
     WriteFault,
     /// The files failed.
     FileFault,
-    /// Memory for the content of a file was wanted.
+    /// Memory for a file that was asked for was wanted.
     NoMemory,
 }
 
@@ -24,6 +24,8 @@ pub enum Step {
     WantRead,
     /// An answer isn't written whole, and the link takes no more bytes yet.
     WantWrite,
+    /// The application asks to look for a path, which `Conn::wanted` tells. `Conn::supply` is owed what was found there.
+    WantFile,
     /// The connection is over.
     Done(End),
 }

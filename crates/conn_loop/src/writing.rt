@@ -1,4 +1,4 @@
-// Writing a piece as far as the link takes it.
+//! Writing a piece as far as the link takes it.
 ghost use Rattle.std.specs.Prelude.{◌≤◌, length, drop};
 ghost use Rattle.conn_loop.specs.Writing.{Writes};
 

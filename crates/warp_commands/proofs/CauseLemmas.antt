@@ -1,96 +1,94 @@
 -- Why a connection's step came, in the words of a command.
-use Rattle.std.proofs.Common.{◌≡◌, ℕ, List, ◌++◌, IfNone, refl, sym, ap, ◌∙◌, subst, inl, inr}
+use Rattle.std.proofs.Common.{◌≡◌, ◌≢◌, ℕ, List, ◌++◌, refl, sym, ap, ◌∙◌, subst, inl, inr}
 use Rattle.outside.specs.Causes.{LinkTold}
 use Rattle.outside.specs.FileCauses.{FilesTold}
 use Rattle.outside.specs.Moments.{ClockTold, Gives}
-use Rattle.conn_loop.specs.Causes.{HasFault, CountsWaits, Clocked}
+use Rattle.conn_loop.specs.Causes.{Clocked}
 use Rattle.conn_loop.specs.Standing.{Standing, at_first}
 use Rattle.conn_loop.specs.declared.step.Step.{Step}
-use Rattle.conn_loop.specs.declared.step.Step.TheVariants.{WantRead, WantWrite, Done}
+use Rattle.conn_loop.specs.declared.step.Step.TheVariants.{WantRead, WantWrite, WantFile, Done}
 use Rattle.conn_loop.specs.declared.step.End.TheVariants as End
 use Rattle.warp_commands.specs.Causes.{IsServeCause}
-use Rattle.warp_commands.specs.Steps.{status_after}
+use Rattle.warp_commands.specs.Steps.{Brings, status_after}
 
 -- a new connection's moments are those that it gained
 pub gives_first : (old new : Standing) (clock after : ClockTold) → old ≡ at_first → Clocked old new clock after → Gives new.moments clock after
 gives_first old new clock after is x =
     subst (λ (v : List ℕ). Gives v clock after) (sym (x.grown ∙ ap (λ (s : Standing). s.moments ++ x.gained) is)) x.gave
 
--- a new connection isn't over
-pub cause_first : (old : Standing) (P : Type 0) → old ≡ at_first → IfNone old.over P → P
-cause_first old P is x = subst (λ (s : Standing). IfNone s.over P) is x
-
-pub caused_after : (step : Step) (link later : LinkTold) (files since : FilesTold) → HasFault step link later files since → CountsWaits step link later
+-- what a run of steps leaves is why a command ended
+pub caused_after : (step : Step) (link later : LinkTold) (files since : FilesTold) → step ≢ WantFile → Brings step link later files since
     → IsServeCause (status_after step) link later files since
-caused_after WantRead link later files since fault wait = record {
+caused_after WantRead link later files since stops x = record {
   was_read = λ e. cc;
   was_there = λ e. cc;
   read_fault = λ e. cc;
   write_fault = λ e. cc;
   file_fault = λ e. cc;
-  not_ready = λ e. inl wait;
+  not_ready = λ e. inl x.waits;
   waits_told = λ other. absurd (other refl);
 }
-caused_after WantWrite link later files since fault wait = record {
+caused_after WantWrite link later files since stops x = record {
   was_read = λ e. cc;
   was_there = λ e. cc;
   read_fault = λ e. cc;
   write_fault = λ e. cc;
   file_fault = λ e. cc;
-  not_ready = λ e. inr wait;
+  not_ready = λ e. inr x.waits;
   waits_told = λ other. absurd (other refl);
 }
-caused_after (Done End.Clean) link later files since fault wait = record {
+caused_after WantFile link later files since stops x = absurd (stops refl)
+caused_after (Done End.Clean) link later files since stops x = record {
   was_read = λ e. cc;
   was_there = λ e. cc;
   read_fault = λ e. cc;
   write_fault = λ e. cc;
   file_fault = λ e. cc;
   not_ready = λ e. cc;
-  waits_told = λ other. wait;
+  waits_told = λ other. x.waits;
 }
-caused_after (Done End.Cut) link later files since fault wait = record {
+caused_after (Done End.Cut) link later files since stops x = record {
   was_read = λ e. cc;
   was_there = λ e. cc;
   read_fault = λ e. cc;
   write_fault = λ e. cc;
   file_fault = λ e. cc;
   not_ready = λ e. cc;
-  waits_told = λ other. wait;
+  waits_told = λ other. x.waits;
 }
-caused_after (Done End.ReadFault) link later files since fault wait = record {
+caused_after (Done End.ReadFault) link later files since stops x = record {
   was_read = λ e. cc;
   was_there = λ e. cc;
-  read_fault = λ e. fault;
+  read_fault = λ e. x.fault;
   write_fault = λ e. cc;
   file_fault = λ e. cc;
   not_ready = λ e. cc;
-  waits_told = λ other. wait;
+  waits_told = λ other. x.waits;
 }
-caused_after (Done End.WriteFault) link later files since fault wait = record {
+caused_after (Done End.WriteFault) link later files since stops x = record {
   was_read = λ e. cc;
   was_there = λ e. cc;
   read_fault = λ e. cc;
-  write_fault = λ e. fault;
+  write_fault = λ e. x.fault;
   file_fault = λ e. cc;
   not_ready = λ e. cc;
-  waits_told = λ other. wait;
+  waits_told = λ other. x.waits;
 }
-caused_after (Done End.FileFault) link later files since fault wait = record {
-  was_read = λ e. cc;
-  was_there = λ e. cc;
-  read_fault = λ e. cc;
-  write_fault = λ e. cc;
-  file_fault = λ e. fault;
-  not_ready = λ e. cc;
-  waits_told = λ other. wait;
-}
-caused_after (Done End.NoMemory) link later files since fault wait = record {
+caused_after (Done End.FileFault) link later files since stops x = record {
   was_read = λ e. cc;
   was_there = λ e. cc;
   read_fault = λ e. cc;
   write_fault = λ e. cc;
+  file_fault = λ e. x.fault;
+  not_ready = λ e. cc;
+  waits_told = λ other. x.waits;
+}
+caused_after (Done End.NoMemory) link later files since stops x = record {
+  was_read = λ e. cc;
+  was_there = λ e. cc;
+  read_fault = λ e. cc;
+  write_fault = λ e. cc;
   file_fault = λ e. cc;
   not_ready = λ e. cc;
-  waits_told = λ other. wait;
+  waits_told = λ other. x.waits;
 }

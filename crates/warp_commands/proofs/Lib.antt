@@ -1,2 +1,3 @@
 mod AnsweredLemmas
+mod BroughtLemmas
 mod CauseLemmas

@@ -1,19 +1,27 @@
-// One connection, from the words of its command to its status: the call that carries what is promised of the bytes.
-ghost use Rattle.std.specs.Prelude.{◌≡◌, map, string_bytes};
-ghost use Rattle.outside.specs.Causes.{IsFresh};
+//! One connection, from the words of its command to its status: the call that carries what is promised of the bytes.
+ghost use Rattle.std.specs.Prelude.{◌≡◌, ◌≢◌, ◌<◌, None, map, string_bytes};
+ghost use Rattle.outside.specs.Causes.{IsFresh, LinkTold};
+ghost use Rattle.app_trait.specs.FolderMoves.{folder_move};
+ghost use Rattle.app_trait.specs.Moves.{Moves};
+ghost use Rattle.conn_loop.specs.Causes.{Clocked};
+ghost use Rattle.conn_loop.specs.Replying.{serving_over};
+ghost use Rattle.conn_loop.specs.Stages.{failing};
+ghost use Rattle.conn_loop.specs.Standing.{AsksFor, IsAsking, Represents, SendsPrefixFor, StepImpliesFor};
+ghost use Rattle.conn_loop.specs.Steps.{to_go};
+ghost use Rattle.conn_loop.specs.Supplies.{Supplies};
 ghost use Rattle.warp_commands.specs.Words.{words_read};
 ghost use Rattle.warp_commands.specs.Statuses.{IsStatus, line_of, TellsLine};
-ghost use Rattle.warp_commands.specs.Causes.{HasCause, IsServeCause, Leaves};
-ghost use Rattle.warp_commands.specs.Steps.{status_after};
+ghost use Rattle.warp_commands.specs.Causes.{HasCause, IsServeCause, Leaves, Stays};
+ghost use Rattle.warp_commands.specs.Steps.{Brings, FailsSince, FilesKept, MayLook, fails_by, status_after};
 ghost use Rattle.warp_commands.specs.Served.{IsAnsweredFor};
 
 use crate::command::{Command, command_of};
 use crate::status::{Status, tell};
 use app_trait::FolderApp;
-use conn_loop::{Conn, End, Step};
+use conn_loop::{Conn, End, Scratch, Step, Supply};
+use fd_cache::{Acquired, Cache, Lease, acquire_own, release_own};
 use outside::{Clock, Files, Link, RootOut, Sink};
 use std::alloc::Global;
-use warp_request::Scratch;
 
 /// Serves the one connection that the link is, with the files of the command's ROOT, and gives the exit status.
 ///
@@ -30,7 +38,7 @@ pub fn run_connection<L: Link, F: Files, C: Clock, S: Sink>(
     requires { IsFresh (L.told link.old) }
 
     // The bytes sent are a prefix of the answers to the bytes taken, in order, and whole at a clean end and at a cut.
-    ensures answered { IsStatus result (λ status. IsAnsweredFor status F.folder (L.told link.new) (C.told clock.old) (C.told clock.new)) }
+    ensures answered { IsStatus result (λ status. IsAnsweredFor status F.folder (L.told link.old) (L.told link.new) (C.told clock.old) (C.told clock.new)) }
 
     // Each status has its cause in the words, the root and the counts.
     ensures caused { IsStatus result (λ status. HasCause status (words_read (map string_bytes words.now))
@@ -39,8 +47,9 @@ pub fn run_connection<L: Link, F: Files, C: Clock, S: Sink>(
     // The error stream got the status's line and nothing else.
     ensures told { IsStatus result (λ status. TellsLine (line_of status) (S.told errors.old) (S.told errors.new)) }
 
-    // What the link plans, the firmness of the files and the stillness of the clock stay, and no count of faults falls.
-    ensures leaves { Leaves (L.told link.old) (L.told link.new) (F.told files.old) (F.told files.new) (C.told clock.old) (C.told clock.new) }
+    // What the link plans, the firmness of the files and the stillness of the clock stay, no count of faults falls, and no path
+    // that is looked for leads out of the folder. Without a command or a folder nothing is touched but the error stream.
+    ensures leaves { IsStatus result (λ status. Leaves status (L.told link.old) (L.told link.new) (F.told files.old) (F.told files.new) (C.told clock.old) (C.told clock.new)) }
 {
     let status = carried_out(alloc, words, link, files, clock);
     tell(errors, status);
@@ -56,10 +65,10 @@ fn carried_out<L: Link, F: Files, C: Clock>(
     clock: &mut C,
 ) -> Status
     requires { IsFresh (L.told link.old) }
-    ensures answered { IsAnsweredFor result F.folder (L.told link.new) (C.told clock.old) (C.told clock.new) }
+    ensures answered { IsAnsweredFor result F.folder (L.told link.old) (L.told link.new) (C.told clock.old) (C.told clock.new) }
     ensures caused { HasCause result (words_read (map string_bytes words.now))
         (L.told link.old) (L.told link.new) (F.told files.old) (F.told files.new) }
-    ensures leaves { Leaves (L.told link.old) (L.told link.new) (F.told files.old) (F.told files.new) (C.told clock.old) (C.told clock.new) }
+    ensures leaves { Leaves result (L.told link.old) (L.told link.new) (F.told files.old) (F.told files.new) (C.told clock.old) (C.told clock.new) }
 {
     let Ok(Command::Connection { root }) = command_of(words) else {
         return Status::Usage;
@@ -72,7 +81,7 @@ fn carried_out<L: Link, F: Files, C: Clock>(
     }
 }
 
-/// Serves the link with the files below the root that was asked for.
+/// Serves the link with the files below the root that was asked for, which stay open in a cache between requests.
 fn served<L: Link, F: Files, C: Clock>(
     alloc: Global,
     link: &mut L,
@@ -80,10 +89,10 @@ fn served<L: Link, F: Files, C: Clock>(
     clock: &mut C,
 ) -> Status
     requires { IsFresh (L.told link.old) }
-    ensures answered { IsAnsweredFor result F.folder (L.told link.new) (C.told clock.old) (C.told clock.new) }
+    ensures answered { IsAnsweredFor result F.folder (L.told link.old) (L.told link.new) (C.told clock.old) (C.told clock.new) }
     ensures caused { IsServeCause result (L.told link.old) (L.told link.new) (F.told files.old) (F.told files.new) }
     ensures rooted { (F.told files.new).rooted ≡ (F.told files.old).rooted }
-    ensures leaves { Leaves (L.told link.old) (L.told link.new) (F.told files.old) (F.told files.new) (C.told clock.old) (C.told clock.new) }
+    ensures stays { Stays (L.told link.old) (L.told link.new) (F.told files.old) (F.told files.new) (C.told clock.old) (C.told clock.new) }
 {
     let Ok(mut conn) = Conn::<F>::new(alloc) else {
         return Status::NoMemory;
@@ -91,15 +100,107 @@ fn served<L: Link, F: Files, C: Clock>(
     let Ok(mut scratch) = Scratch::new(alloc) else {
         return Status::NoMemory;
     };
-    status_of(conn.advance(link, files, &FolderApp, clock, &mut scratch))
+    let Ok(mut cache) = Cache::<F>::new(alloc) else {
+        return Status::NoMemory;
+    };
+    let step = brought_on(
+        alloc,
+        &mut conn,
+        link,
+        files,
+        clock,
+        &mut scratch,
+        &mut cache,
+    );
+    if let Some(lease) = conn.finish().lease {
+        release_own(&mut cache, lease);
+    }
+    status_of(step)
 }
 
-/// How a command ends whose connection went so far.
+/// Brings a connection on until the link must be waited for or the connection is over. Each file that it wants is supplied.
+fn brought_on<L: Link, F: Files, C: Clock>(
+    alloc: Global,
+    conn: &mut Conn<F>,
+    link: &mut L,
+    files: &mut F,
+    clock: &mut C,
+    scratch: &mut Scratch,
+    cache: &mut Cache<F>,
+) -> Step
+    requires stands { Represents folder_move F.folder conn.old (L.told link.old) }
+    requires running { conn.old.over ≡ None }
+    requires sound { failing conn.old.stage ≡ None }
+    ensures prefix { SendsPrefixFor (serving_over folder_move F.folder) conn.new (L.told link.new) }
+    ensures implies { StepImpliesFor result (serving_over folder_move F.folder) conn.new (L.told link.new) }
+    ensures stops { result ≢ Step.WantFile }
+    ensures clocked { Clocked conn.old conn.new (C.told clock.old) (C.told clock.new) }
+    ensures brings { Brings result (L.told link.old) (L.told link.new) (F.told files.old) (F.told files.new) }
+{
+    'files: loop {
+        let step = conn.advance(link, files, &FolderApp, clock, scratch);
+        give_back(conn, cache);
+        match step {
+            Step::WantFile => supply_wanted(alloc, conn, files, cache),
+            step => return step,
+        }
+    }
+}
+
+/// Gives a lease back that the connection doesn't need any more.
+fn give_back<F: Files>(conn: &mut Conn<F>, cache: &mut Cache<F>)
+    ensures represents { (moves : Moves) (link : LinkTold) → Represents moves F.folder conn.old link → Represents moves F.folder conn.new link }
+    ensures same { conn.new ≡ record conn.old { lease = conn.new.lease } }
+    ensures spent { IsAsking conn.old → conn.new.lease ≡ None }
+{
+    if let Some(lease) = conn.spent_lease() {
+        release_own(cache, lease);
+    }
+}
+
+/// Supplies the file that the connection wants.
+fn supply_wanted<F: Files>(alloc: Global, conn: &mut Conn<F>, files: &mut F, cache: &mut Cache<F>)
+    requires asking { IsAsking conn.old }
+    requires none_spent { conn.old.lease ≡ None }
+    requires asks { AsksFor folder_move conn.old.stage }
+    ensures represents { (link : LinkTold) → Represents folder_move F.folder conn.old link → Represents folder_move F.folder conn.new link }
+    ensures same { conn.new ≡ record conn.old { stage = conn.new.stage; lease = conn.new.lease } }
+    ensures looked { FilesKept (F.told files.old) (F.told files.new) × FailsSince (failing conn.new.stage) (F.told files.old).faults (F.told files.new).faults }
+    ensures nearer { to_go conn.new < to_go conn.old }
+{
+    // The law that what the folder's application looks for lies below the folder.
+    FolderApp.serves();
+    let got = found_at(alloc, conn.wanted(), files, cache);
+    conn.supply(got);
+}
+
+/// What is at a path: a file that stays open, or what a look finds.
+fn found_at<F: Files>(
+    alloc: Global,
+    path: &str,
+    files: &mut F,
+    cache: &mut Cache<F>,
+) -> Supply<Lease<F>>
+    ensures there { Supplies F.folder (λ lease. F.file_path lease.file) path.now result }
+    ensures looked { MayLook path.now (fails_by result) (F.told files.old) (F.told files.new) }
+{
+    match acquire_own(alloc, cache, path, files) {
+        Acquired::Leased(lease) => Supply::Leased(lease),
+        Acquired::Absent => Supply::Absent,
+        Acquired::Failed => Supply::Failed,
+        Acquired::NoMemory => Supply::NoMemory,
+        Acquired::Spent => unreachable!(),
+    }
+}
+
+/// How a command ends whose connection went so far. A file that is wanted is supplied, so that no connection ends there.
 fn status_of(step: Step) -> Status
+    requires { step ≢ Step.WantFile }
     ensures { result ≡ status_after step }
 {
     match step {
         Step::WantRead | Step::WantWrite => Status::NotReady,
+        Step::WantFile => unreachable!(),
         Step::Done(end) => match end {
             End::Clean => Status::Clean,
             End::Cut => Status::Cut,

@@ -1,9 +1,11 @@
 // Worked exchanges over memory: what comes in, what goes out, and the status. Each comes in one piece and byte by byte.
-ghost use Rattle.std.specs.Prelude.{◌≡◌, IfOk};
+ghost use Rattle.std.specs.Prelude.{◌≡◌, ◌≤◌, ◌<◌, IfOk};
 ghost use Rattle.outside.specs.MemFolder.{folder_in};
 ghost use Rattle.outside.specs.ReadScript.{EachFilled};
 
 mod bodies;
+mod cuts;
+mod files;
 
 use crate::run_connection;
 use outside::{MemClock, MemFile, MemFiles, MemSink, PieceLink, Place, ReadEvent, WriteEvent};
@@ -48,6 +50,7 @@ struct Outcome {
     status: u8,
     sent: Vec<u8>,
     told: Vec<u8>,
+    finds: u64,
 }
 
 /// Carries out a command over these files and this input.
@@ -76,6 +79,7 @@ fn carried_out<K: Place>(
         status,
         sent: link.sent().to_vec(alloc)?,
         told: errors.bytes().to_vec(alloc)?,
+        finds: files.finds(),
     })
 }
 
@@ -87,15 +91,24 @@ fn file(alloc: Global, path: &str, bytes: Vec<u8>) -> Result<MemFile, AllocError
     })
 }
 
-/// A page, a text of 1,000 letters, and the page of a folder.
-fn site(alloc: Global) -> Result<Vec<MemFile>, AllocError> {
-    let mut letters = Vec::new(alloc);
-    for k in 0..1_000u32 {
-        letters.push(b'a' + (k % 26) as u8)?;
+/// Bytes that repeat after so many, from the first one on.
+fn repeated(alloc: Global, count: u32, first: u8, after: u32) -> Result<Vec<u8>, AllocError>
+    requires first { first ≤ 97 }
+    requires after { (0 < after) × (after ≤ 158) }
+{
+    let mut all = Vec::new(alloc);
+    for k in 0..count {
+        all.push(first + (k % after) as u8)?;
     }
+    Ok(all)
+}
+
+/// A page, a text of 1,000 letters, 40,000 bytes, and the page of a folder.
+fn site(alloc: Global) -> Result<Vec<MemFile>, AllocError> {
     Ok(vec![in alloc;
         file(alloc, "index.html", b"hi\n".to_vec(alloc)?)?,
-        file(alloc, "a.txt", letters)?,
+        file(alloc, "a.txt", repeated(alloc, 1_000, b'a', 26)?)?,
+        file(alloc, "big.bin", repeated(alloc, 40_000, 0, 151)?)?,
         file(alloc, "sub/index.html", b"sub\n".to_vec(alloc)?)?,
     ]?)
 }
@@ -385,6 +398,10 @@ fn the_thousandth_answer_closes(rt: HostRuntime) -> Result<(), Fail> {
     Ok(())
 }
 
+/// Three requests, of 27, 32 and 33 bytes.
+const THREE: &[u8] =
+    b"GET / HTTP/1.1\r\nHost: a\r\n\r\nGET /a.txt HTTP/1.1\r\nHost: a\r\n\r\nHEAD /a.txt HTTP/1.1\r\nHost: a\r\n\r\n";
+
 const ASKED: &[u8] = b"GET / HTTP/1.1\r\nHost: a\r\nConnection: close\r\n\r\n";
 
 /// Asserts the status, the bytes sent and the line told for one request that closes.
@@ -467,9 +484,7 @@ fn answers_that_are_ready_together_leave_in_one_write(rt: HostRuntime) -> Result
         writes,
         ..Scene::fair(alloc)
     };
-    let requests =
-        b"GET / HTTP/1.1\r\nHost: a\r\n\r\nGET /a.txt HTTP/1.1\r\nHost: a\r\n\r\nHEAD /a.txt HTTP/1.1\r\nHost: a\r\n\r\n";
-    let reads = whole(alloc, requests)?;
+    let reads = whole(alloc, THREE)?;
     let outcome = over_the_site(alloc, &["connection", "site"], reads, scene)?;
     assert_eq!(rt; outcome.status, 0);
     assert_eq!(rt; outcome.sent.len(), 140 + 1_141 + 141);
@@ -479,11 +494,11 @@ fn answers_that_are_ready_together_leave_in_one_write(rt: HostRuntime) -> Result
 #[test]
 fn faults_of_the_files_have_their_statuses(rt: HostRuntime) -> Result<(), Fail> {
     let alloc = rt.alloc();
-    for (what, call, in_bytes) in [
-        ("a root that fails", 1, false),
-        ("a look that fails", 2, false),
-        ("a look that fails, byte by byte", 2, true),
-        ("a part that fails", 3, false),
+    for (what, call, in_bytes, sent) in [
+        ("a root that fails", 1, false, 0),
+        ("a look that fails", 2, false, 0),
+        ("a look that fails, byte by byte", 2, true, 0),
+        ("a part that fails", 3, false, PAGE.len() - 3),
     ] {
         let scene = Scene {
             failing: vec![in alloc; call]?,
@@ -491,7 +506,14 @@ fn faults_of_the_files_have_their_statuses(rt: HostRuntime) -> Result<(), Fail> 
         };
         let reads = cut(alloc, ASKED, in_bytes)?;
         let outcome = over_the_site(alloc, &["connection", "site"], reads, scene)?;
-        ends(&rt, what, &outcome, 5, b"", "file fault\n");
+        ends(
+            &rt,
+            what,
+            &outcome,
+            5,
+            &PAGE.as_bytes()[..sent],
+            "file fault\n",
+        );
     }
     Ok(())
 }

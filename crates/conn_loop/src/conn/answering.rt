@@ -1,61 +1,65 @@
-// What a connection answers: replies and refusals are made, and what was made is written.
-ghost use Rattle.std.specs.Prelude.{◌≡◌, ◌<◌, ◌+◌, ◌∷◌, ℕ, [], Option, Some, None, IfNone, false};
+//! What a connection answers: the application is consulted, and heads and refusals are made.
+ghost use Rattle.std.specs.Prelude.{◌≡◌, ◌≤◌, ◌<◌, ◌+◌, ◌^◌, ◌∷◌, ℕ, [], None, IfNone, length};
 ghost use Rattle.outside.specs.Moments.{Gives};
-ghost use Rattle.warp_request.specs.Verdict.{asked};
+ghost use Rattle.app_trait.specs.Moves.{PathKept, text_of};
+ghost use Rattle.app_trait.specs.Shown.{FitsMove, move_shown};
 ghost use Rattle.conn_loop.specs.Causes.{Clocked};
-ghost use Rattle.conn_loop.specs.Moves.{Sends, Refuses, AnswersTo, AnswerFaults};
+ghost use Rattle.conn_loop.specs.Moves.{Consults, Refuses, Responds, MakesHead, SizeFits};
 ghost use Rattle.conn_loop.specs.Phases.{IsRefusal};
-ghost use Rattle.conn_loop.specs.Replying.{Replying, replying};
-ghost use Rattle.conn_loop.specs.Stages.{IsReadyStage};
-ghost use Rattle.conn_loop.specs.Steps.{ComesFor, Goes, GoesOver, MayEnd, EndsWith, to_go};
+ghost use Rattle.conn_loop.specs.Replying.{serving_over};
+ghost use Rattle.conn_loop.specs.Stages.{refusing, IsReadyStage};
+ghost use Rattle.conn_loop.specs.Standing.{AsksFor};
+ghost use Rattle.conn_loop.specs.Steps.{ComesFor, Goes, HasWay, Proceeds, CanSend, SendableMove, to_go};
 
 use super::Conn;
-use crate::answered::{Answered, last_word, left_after, note};
+use crate::closing::{last_word, left_after, note};
 use crate::phase::Phase;
-use crate::replies::{Answer, Replied, reply};
-use crate::step::{End, Step};
-use crate::writing::WriteEnd;
-use app_trait::{App, Request};
+use crate::scratch::Scratch;
+use crate::step::Step;
+use app_trait::{App, Move, Request, Seen};
 use outside::{Clock, Files, Link};
-use warp_response::{LastWord, refusal};
+use path_rules::PathBuf8;
+use warp_response::{Content, LastWord, Response, head_bytes, refusal};
 
 impl<F: Files> Conn<F> {
-    /// Answers a whole request. Where that can't be done the connection ends.
+    /// Answers a whole request, but for the content of its file, or asks for the look that its answer needs.
     pub(super) fn respond<L: Link, A: App, C: Clock>(
         &mut self,
         link: &mut L,
-        files: &mut F,
         app: &A,
         clock: &mut C,
+        scratch: &mut Scratch,
     ) -> Option<Step>
-        requires room { self.old.full ≡ false }
         requires some { 0 < self.old.left }
-        requires running { self.old.over ≡ None }
         requires ready { IsReadyStage self.old.stage }
-        ensures stands { ComesFor None (replying (A.moves app.now) F.folder) self.old (L.told link.old)
-            → ComesFor result (replying (A.moves app.now) F.folder) self.new (L.told link.new) }
-        ensures running { self.new.over ≡ None }
-        ensures nearer { IfNone result (to_go self.new < to_go self.old) }
+        requires asks { AsksFor (A.moves app.now) self.old.stage }
+        ensures stands { ComesFor None (serving_over (A.moves app.now) F.folder) self.old (L.told link.old)
+            → ComesFor result (serving_over (A.moves app.now) F.folder) self.new (L.told link.new) }
+        ensures proceeds { Proceeds (A.moves app.now) result self.old self.new }
+        ensures nearer { (to_go self.new ≤ to_go self.old) × IfNone result (to_go self.new < to_go self.old) }
         ensures clocked { Clocked self.old self.new (C.told clock.old) (C.told clock.new) }
-        ensures goes { GoesOver result (L.told link.old) (L.told link.new) (F.told files.old) (F.told files.new) }
+        ensures goes { Goes result self.old self.new (L.told link.old) (L.told link.new) }
     {
-        match self.answer(files, app, clock) {
-            Answered::Made => None,
-            Answered::Failed => Some(self.end(link, End::FileFault)),
-            Answered::NoMemory => Some(self.end(link, End::NoMemory)),
+        if let Some(step) = self.make_way(link) {
+            return Some(step);
+        }
+        match self.consult(app) {
+            Move::Look => Some(Step::WantFile),
+            Move::Answer(response) => {
+                self.answer(clock, scratch, &response);
+                None
+            }
         }
     }
 
-    /// Answers the request that is whole. Its file is read whole before the clock is asked.
-    fn answer<A: App, C: Clock>(&mut self, files: &mut F, app: &A, clock: &mut C) -> Answered
-        requires room { self.old.full ≡ false }
+    /// What the application does with the request that is whole.
+    fn consult<A: App>(&mut self, app: &A) -> Move
         requires some { 0 < self.old.left }
-        requires running { self.old.over ≡ None }
         requires ready { IsReadyStage self.old.stage }
-        ensures answers { AnswersTo result (replying (A.moves app.now) F.folder) self.old self.new (C.told clock.old) (C.told clock.new) }
-        ensures faulted { AnswerFaults result (F.told files.old) (F.told files.new) }
+        requires asks { AsksFor (A.moves app.now) self.old.stage }
+        ensures { Consults (A.moves app.now) result self.old self.new }
     {
-        let Phase::Ready { head, behind } = self.phase else {
+        let Phase::Ready { head, behind, seen } = self.phase else {
             unreachable!()
         };
         let bytes = self.input.bytes();
@@ -64,106 +68,92 @@ impl<F: Files> Conn<F> {
             target: head.target.of(bytes),
             minor: head.minor,
         };
-        let Answer { response, content } = match reply(
-            self.alloc,
-            files,
-            app,
-            &request,
-            &mut self.path,
-        ) {
-            Replied::With(answer) => answer,
-            Replied::Failed => return Answered::Failed,
-            Replied::NoMemory => return Answered::NoMemory,
+        match next_move(app, &request, seen, &mut self.path) {
+            Move::Look => {
+                self.phase = Phase::Wanting { head, behind, seen };
+                Move::Look
+            }
+            Move::Answer(response) => Move::Answer(response),
+        }
+    }
+
+    /// Makes the head of the answer to the request that is whole, at the moment that the clock gives. The content follows
+    /// part by part.
+    fn answer<C: Clock>(&mut self, clock: &mut C, scratch: &mut Scratch, response: &Response)
+        requires room { HasWay self.old }
+        requires some { 0 < self.old.left }
+        requires sendable { CanSend response.now self.old.stage }
+        ensures { (moment : ℕ) × Responds response.now moment self.old self.new × Gives (moment ∷ []) (C.told clock.old) (C.told clock.new) }
+    {
+        let Phase::Ready { head, behind, seen } = self.phase else {
+            unreachable!()
         };
+        // What was seen is named for the proof alone.
+        let _found = seen;
         let moment = clock.now();
         let left = self.left - 1;
-        self.output.put(
-            &response,
+        let target = head.target.of(self.input.bytes());
+        head_bytes(
+            response,
             moment,
             last_word(&head, left),
-            request.target,
-            content,
+            target,
+            &mut scratch.head,
         );
+        self.output.add(scratch.head.bytes());
         note(&mut self.moments, moment);
         self.input.skip(head.head_len + behind);
         self.left = left_after(&head, left);
-        self.phase = Phase::Fresh;
-        Answered::Made
+        self.phase = phase_behind(response.content);
     }
 
     /// Refuses what is in the input, after which nothing follows.
-    pub(super) fn refuse<C: Clock>(&mut self, clock: &mut C, code: u16)
-        requires room { self.old.full ≡ false }
+    pub(super) fn refuse<C: Clock>(&mut self, clock: &mut C, scratch: &mut Scratch, code: u16)
+        requires room { length self.old.pending < 16384 }
         requires some { 0 < self.old.left }
-        requires running { self.old.over ≡ None }
         requires phrase { IsRefusal code }
+        requires refusing { self.old.stage ≡ refusing code }
         ensures { (moment : ℕ) × Refuses code moment self.old self.new × Gives (moment ∷ []) (C.told clock.old) (C.told clock.new) }
     {
         let moment = clock.now();
         let response = refusal(code);
-        self.output.put(
-            &response,
-            moment,
-            LastWord::Close,
-            &[],
-            Vec::new(self.alloc),
-        );
+        head_bytes(&response, moment, LastWord::Close, &[], &mut scratch.head);
+        self.output.add(scratch.head.bytes());
         note(&mut self.moments, moment);
         self.left = 0;
     }
+}
 
-    /// Writes the answers made, and then ends the connection. The caller owes that this is how it ends.
-    pub(super) fn end<L: Link>(&mut self, link: &mut L, end: End) -> Step
-        requires { MayEnd end self.old }
-        ensures stands { (reply : Option Replying) → ComesFor None reply self.old (L.told link.old) → ComesFor (Some result) reply self.new (L.told link.new) }
-        ensures same { self.new ≡ record self.old { pending = self.new.pending; full = self.new.full } }
-        ensures goes { EndsWith end result (L.told link.old) (L.told link.new) }
-    {
-        match self.write_due(link) {
-            None => Step::Done(end),
-            Some(step) => step,
-        }
+/// Where a connection stands once the head with this content was made.
+fn phase_behind(content: Content) -> Phase
+    ensures makes { MakesHead content result }
+    ensures sized { SizeFits content }
+{
+    match content {
+        Content::File { size, send } => sending_of(size, send),
+        Content::None | Content::Empty => Phase::Fresh,
     }
+}
 
-    /// Writes the answers made, where they must leave before another one comes. `None` comes where one may.
-    pub(super) fn make_room<L: Link>(&mut self, link: &mut L) -> Option<Step>
-        ensures stands { (reply : Option Replying) → ComesFor None reply self.old (L.told link.old) → ComesFor result reply self.new (L.told link.new) }
-        ensures room { IfNone result (self.new.full ≡ false) }
-        ensures same { self.new ≡ record self.old { pending = self.new.pending; full = self.new.full } }
-        ensures goes { Goes result (L.told link.old) (L.told link.new) }
-    {
-        if self.is_full() {
-            self.write_due(link)
-        } else {
-            None
-        }
+/// Where a connection stands once the head of a file of this size was made, whose content is sent or isn't.
+fn sending_of(size: u64, send: bool) -> Phase
+    ensures makes { MakesHead (Content.File size send) result }
+    ensures sized { size < 2 ^ 64 }
+{
+    if send && size > 0 {
+        Phase::Sending { at: 0, size }
+    } else {
+        Phase::Fresh
     }
+}
 
-    /// Whether the answers made must be written before another one is.
-    fn is_full(&self) -> bool
-        ensures { result ≡ self.now.full }
-    {
-        self.output.is_full()
-    }
-
-    /// Writes the answers made. `None` comes where all of them are written.
-    pub(super) fn write_due<L: Link>(&mut self, link: &mut L) -> Option<Step>
-        ensures stands { (reply : Option Replying) → ComesFor None reply self.old (L.told link.old) → ComesFor result reply self.new (L.told link.new) }
-        ensures done { IfNone result ((self.new.pending ≡ []) × (self.new.full ≡ false)) }
-        ensures same { self.new ≡ record self.old { pending = self.new.pending; full = self.new.full } }
-        ensures goes { Goes result (L.told link.old) (L.told link.new) }
-    {
-        match self.flush(link) {
-            WriteEnd::All => None,
-            WriteEnd::Waits => Some(Step::WantWrite),
-            WriteEnd::Fails => Some(Step::Done(End::WriteFault)),
-        }
-    }
-
-    /// Writes what is to be written.
-    fn flush<L: Link>(&mut self, link: &mut L) -> WriteEnd
-        ensures { Sends result self.old self.new (L.told link.old) (L.told link.new) }
-    {
-        self.output.flush(link)
-    }
+/// What the application does with a request once this was seen.
+fn next_move<A: App>(app: &A, request: &Request<'_>, seen: Seen, path: &mut PathBuf8) -> Move
+    requires short { length request.now.target.now ≤ 8192 }
+    requires kept { PathKept (A.moves app.now (text_of request.now)) seen path.old }
+    ensures is { move_shown request.now.target.now result path.new ≡ A.moves app.now (text_of request.now) seen }
+    ensures fits { FitsMove request.now.target.now seen result }
+    ensures sendable { SendableMove request.now.target.now result }
+{
+    app.reply(request, seen, path)
 }

@@ -1,31 +1,35 @@
-// What is ahead of a connection: its input is read and judged, and bodies are read on.
-ghost use Rattle.std.specs.Prelude.{◌≡◌, ◌≤◌, ◌<◌, ◌++◌, ◌↔◌, IsTrue, ℕ, List, [], Option, None, IfNone, length, false};
+//! What is ahead of a connection: its input is read and judged, and bodies are read on.
+ghost use Rattle.std.specs.Prelude.{◌≡◌, ◌≤◌, ◌<◌, ◌++◌, ◌↔◌, IsTrue, ℕ, List, [], Option, None, IfNone, length};
 ghost use Rattle.outside.specs.Causes.{LinkTold};
 ghost use Rattle.warp_request.specs.Lines.{skip_empty};
 ghost use Rattle.warp_request.specs.Next.{next_of};
 ghost use Rattle.warp_request.specs.Verdict.{asked};
-ghost use Rattle.conn_loop.specs.declared.buffer.TheConstants.{ROOM};
 ghost use Rattle.conn_loop.specs.Heads.{asked_in};
-ghost use Rattle.conn_loop.specs.Moves.{Takes};
+ghost use Rattle.conn_loop.specs.Moves.{Takes, waits_read};
 ghost use Rattle.conn_loop.specs.Phases.{AheadOf, HasHead};
-ghost use Rattle.conn_loop.specs.Replying.{Replying};
+ghost use Rattle.conn_loop.specs.Replying.{Serving};
 ghost use Rattle.conn_loop.specs.Stages.{unread, IsBetween, IsReadUp, IsWanting};
-ghost use Rattle.conn_loop.specs.Steps.{ComesFor, Goes, stage_after, to_go};
+ghost use Rattle.app_trait.specs.Moves.{Moves};
+ghost use Rattle.conn_loop.specs.Standing.{AsksFor};
+ghost use Rattle.conn_loop.specs.Steps.{ComesFor, Goes, IsPlain, stage_after, to_go};
 
 use super::Conn;
 use crate::bodies::{most_bytes, read_on};
 use crate::phase::{Ahead, Phase};
+use crate::scratch::Scratch;
 use crate::step::{End, Step};
 use outside::{Files, Link, ReadOut};
 use std::mem;
-use warp_request::{BodyReader, HeadInfo, Next, Scratch, is_blank, next};
+use warp_request::{BodyReader, HeadInfo, Next, is_blank, next};
+use warp_response::interim;
 
 impl<F: Files> Conn<F> {
     /// What is ahead. A body is read on where it was left.
     pub(super) fn look(&mut self) -> Ahead
-        requires running { self.old.over ≡ None }
-        ensures stands { (reply : Option Replying) (link : LinkTold) → ComesFor None reply self.old link → ComesFor None reply self.new link }
+        requires plain { IsPlain self.old.stage }
+        ensures stands { (serving : Option Serving) (link : LinkTold) → ComesFor None serving self.old link → ComesFor None serving self.new link }
         ensures is { AheadOf result self.new.stage self.new.input }
+        ensures asks { (moves : Moves) → AsksFor moves self.old.stage → AsksFor moves self.new.stage }
         ensures nearer { to_go self.new ≤ to_go self.old }
         ensures same { self.new ≡ record self.old { input = self.new.input; stage = self.new.stage } }
     {
@@ -35,9 +39,11 @@ impl<F: Files> Conn<F> {
 
     /// Reads on in the body that is read, if one is.
     fn read_body(&mut self)
-        requires running { self.old.over ≡ None }
-        ensures stands { (reply : Option Replying) (link : LinkTold) → ComesFor None reply self.old link → ComesFor None reply self.new link }
+        requires plain { IsPlain self.old.stage }
+        ensures stands { (serving : Option Serving) (link : LinkTold) → ComesFor None serving self.old link → ComesFor None serving self.new link }
         ensures read { IsReadUp self.new.stage self.new.input }
+        ensures plain { IsPlain self.new.stage }
+        ensures asks { (moves : Moves) → AsksFor moves self.old.stage → AsksFor moves self.new.stage }
         ensures nearer { to_go self.new ≤ to_go self.old }
         ensures same { self.new ≡ record self.old { input = self.new.input; stage = self.new.stage } }
     {
@@ -51,7 +57,7 @@ impl<F: Files> Conn<F> {
 
     /// What is ahead where all of a body that came was read.
     fn ahead(&self) -> Ahead
-        requires running { self.now.over ≡ None }
+        requires plain { IsPlain self.now.stage }
         requires read { IsReadUp self.now.stage self.now.input }
         ensures { AheadOf result self.now.stage self.now.input }
     {
@@ -61,20 +67,21 @@ impl<F: Files> Conn<F> {
             Phase::Reading { .. } => Ahead::Unfinished,
             Phase::Refused(code) => Ahead::Refused(code),
             Phase::Ready { .. } => Ahead::Whole,
-            Phase::Over(_) => unreachable!(),
+            _ => unreachable!(),
         }
     }
 
     /// Judges what the input begins with.
     pub(super) fn judge(&mut self, scratch: &mut Scratch)
-        requires room { self.old.full ≡ false }
+        requires room { length self.old.pending < 16384 }
         requires some { 0 < self.old.left }
         requires unread { self.old.stage ≡ unread }
-        ensures stands { (reply : Option Replying) (link : LinkTold) → ComesFor None reply self.old link → ComesFor None reply self.new link }
+        ensures stands { (serving : Option Serving) (link : LinkTold) → ComesFor None serving self.old link → ComesFor None serving self.new link }
+        ensures plain { IsPlain self.new.stage × ((moves : Moves) → AsksFor moves self.new.stage) }
         ensures nearer { to_go self.new < to_go self.old }
-        ensures same { self.new ≡ record self.old { input = self.new.input; stage = self.new.stage; pending = self.new.pending; full = self.new.full } }
+        ensures same { self.new ≡ record self.old { input = self.new.input; stage = self.new.stage; pending = self.new.pending } }
     {
-        match next(self.input.bytes(), scratch) {
+        match next(self.input.bytes(), &mut scratch.fields) {
             Next::More => self.phase = Phase::Waits,
             Next::Refuse(code) => self.phase = Phase::Refused(code),
             Next::Head(head) => self.begin(head),
@@ -83,31 +90,32 @@ impl<F: Files> Conn<F> {
 
     /// A head is whole: its client gets the interim answer that it waits for, and its body is read.
     fn begin(&mut self, head: HeadInfo)
-        requires room { self.old.full ≡ false }
+        requires room { length self.old.pending < 16384 }
         requires some { 0 < self.old.left }
         requires unread { self.old.stage ≡ unread }
         requires inside { HasHead self.old.input head }
         requires asks { (t : List ℕ) → next_of (self.old.input ++ t) ≡ asked (asked_in self.old.input head) }
-        ensures stands { (reply : Option Replying) (link : LinkTold) → ComesFor None reply self.old link → ComesFor None reply self.new link }
+        ensures stands { (serving : Option Serving) (link : LinkTold) → ComesFor None serving self.old link → ComesFor None serving self.new link }
+        ensures plain { IsPlain self.new.stage × ((moves : Moves) → AsksFor moves self.new.stage) }
         ensures nearer { to_go self.new < to_go self.old }
-        ensures same { self.new ≡ record self.old { input = self.new.input; stage = self.new.stage; pending = self.new.pending; full = self.new.full } }
+        ensures same { self.new ≡ record self.old { input = self.new.input; stage = self.new.stage; pending = self.new.pending } }
     {
         if head.interim {
-            self.output.put_interim();
+            self.output.add(interim());
         }
         let reader = BodyReader::new(head.framing);
         self.phase = read_on(&mut self.input, head, reader, most_bytes(head.framing));
     }
 
-    /// Writes the answers made, and reads more bytes. `None` comes where some came.
+    /// Writes what was made, and reads more bytes. `None` comes where some came.
     pub(super) fn read_more<L: Link>(&mut self, link: &mut L) -> Option<Step>
-        requires running { self.old.over ≡ None }
         requires some { 0 < self.old.left }
         requires wanting { IsWanting self.old.stage self.old.input }
-        ensures stands { (reply : Option Replying) → ComesFor None reply self.old (L.told link.old) → ComesFor result reply self.new (L.told link.new) }
-        ensures nearer { IfNone result (to_go self.new < to_go self.old) }
-        ensures same { self.new ≡ record self.old { input = self.new.input; stage = self.new.stage; pending = self.new.pending; full = self.new.full } }
-        ensures goes { Goes result (L.told link.old) (L.told link.new) }
+        ensures stands { (serving : Option Serving) → ComesFor None serving self.old (L.told link.old) → ComesFor result serving self.new (L.told link.new) }
+        ensures plain { IsPlain self.new.stage × ((moves : Moves) → AsksFor moves self.new.stage) }
+        ensures nearer { (to_go self.new ≤ to_go self.old) × IfNone result (to_go self.new < to_go self.old) }
+        ensures same { self.new ≡ record self.old { input = self.new.input; stage = self.new.stage; pending = self.new.pending; bytes = self.new.bytes; waits = self.new.waits } }
+        ensures goes { Goes result self.old self.new (L.told link.old) (L.told link.new) }
     {
         if let Some(step) = self.write_due(link) {
             return Some(step);
@@ -124,25 +132,34 @@ impl<F: Files> Conn<F> {
     /// Reads bytes behind the input. Nothing is asked for before all that was made is written: a client may wait for it.
     fn fill<L: Link>(&mut self, link: &mut L) -> ReadOut
         requires written { self.old.pending ≡ [] }
-        requires room { length self.old.input < ROOM }
-        requires running { self.old.over ≡ None }
+        requires wanting { IsWanting self.old.stage self.old.input }
         ensures takes { Takes result self.old.input self.new.input (L.told link.old) (L.told link.new) }
-        ensures same { self.new ≡ record self.old { input = self.new.input; stage = stage_after result self.old.stage } }
+        ensures same { self.new ≡ record self.old { input = self.new.input; stage = stage_after result self.old.stage; waits = waits_read result self.old.waits } }
     {
         let out = self.input.fill(link);
-        if let ReadOut::Got(_) = out {
-            self.phase.more_came();
-        }
+        self.phase.read(out);
+        self.waits = waits_behind(out, self.waits);
         out
     }
 
     /// Whether the input ends between requests: no body is read, and it is empty lines only.
     fn is_between(&self) -> bool
+        requires plain { IsPlain self.now.stage }
         ensures { IsTrue result ↔ (IsBetween self.now.stage × (skip_empty self.now.input ≡ [])) }
     {
         match self.phase {
-            Phase::Fresh | Phase::Waits | Phase::Over(_) => is_blank(self.input.bytes()),
-            Phase::Reading { .. } | Phase::Refused(_) | Phase::Ready { .. } => false,
+            Phase::Fresh | Phase::Waits => is_blank(self.input.bytes()),
+            _ => false,
         }
+    }
+}
+
+/// The count of waits after a read.
+fn waits_behind(out: ReadOut, waits: u64) -> u64
+    ensures { result ≡ waits_read out waits }
+{
+    match out {
+        ReadOut::NotYet => waits.saturating_add(1),
+        ReadOut::Got(_) | ReadOut::End | ReadOut::Failed => waits,
     }
 }

@@ -1,0 +1,76 @@
+use Rattle.std.proofs.Common.{◌≡◌, ◌∙◌, ap, sym, subst, refl, List, ℕ}
+use Rattle.httparse.specs.Spans.{span_bytes}
+use Rattle.app_trait.specs.Moves.{PathKept, RequestText, answer}
+use Rattle.app_trait.specs.Shown.{Fits, outline_of}
+use Rattle.warp_response.specs.Reply.{IsSendable}
+use Rattle.conn_loop.specs.Heads.{asked_in}
+use Rattle.conn_loop.specs.declared.phase.Phase.{Phase}
+use Rattle.conn_loop.specs.Phases.{over_in, stage_in}
+use Rattle.conn_loop.specs.Replying.{request_of}
+use Rattle.conn_loop.specs.Stages.{Stage, ready, wanting}
+use Rattle.conn_loop.specs.Standing.{AsksFor, Standing}
+use Rattle.conn_loop.proofs.ViewLemmas.{request_is, ready_at, staged_is}
+use Rattle.conn_loop.proofs.conn.Conn.consult.Goals as goal
+
+pub next_move-requires-clause-kept : goal.next_move-requires-clause-kept
+next_move-requires-clause-kept g c =
+    let old = c.args.self.now in
+    let head = c.in-Ready.head in
+    let inside = c.self.inside in
+    let moves = g.A.App.moves c.args.app.now in
+    let input : c.bytes-bytes.result.now ≡ old.input = c.bytes-bytes.ensures.is ∙ ap (λ (s : Standing). s.input) c.self.view_is in
+    let request = request_is old.input head c.of.result.now c.of-2.result.now
+    (c.of.ensures ∙ ap (λ (t : List ℕ). span_bytes t head.method) input) (c.of-2.ensures ∙ ap (λ (t : List ℕ). span_bytes t head.target) input) in
+    let was : old.stage ≡ ready (asked_in old.input head) c.in-Ready.behind c.in-Ready.seen inside.path =
+    ready_at old inside.input inside.path inside.phase head c.in-Ready.behind c.in-Ready.seen (ap (λ (s : Standing). s.input) c.self.view_is)
+    (ap (λ (s : Standing). s.stage) c.self.view_is) c.in-Ready.is in
+    subst (λ (q : RequestText). PathKept (moves q) c.in-Ready.seen inside.path) (sym request)
+    (subst (λ (st : Stage). AsksFor moves st) was c.requires.asks)
+
+pub returns-in-Look : goal.returns-in-Look
+returns-in-Look g c =
+    let old = c.args.self.now in
+    let head = c.in-Ready.head in
+    let inside = c.self.inside in
+    let moves = g.A.App.moves c.args.app.now in
+    let input : c.bytes-bytes.result.now ≡ old.input = c.bytes-bytes.ensures.is ∙ ap (λ (s : Standing). s.input) c.self.view_is in
+    let request = request_is old.input head c.of.result.now c.of-2.result.now
+    (c.of.ensures ∙ ap (λ (t : List ℕ). span_bytes t head.method) input) (c.of-2.ensures ∙ ap (λ (t : List ℕ). span_bytes t head.target) input) in
+    record {
+      a = asked_in old.input head;
+      behind = c.in-Ready.behind;
+      seen = c.in-Ready.seen;
+      kept = inside.path;
+      was = ready_at old inside.input inside.path inside.phase head c.in-Ready.behind c.in-Ready.seen (ap (λ (s : Standing). s.input) c.self.view_is)
+          (ap (λ (s : Standing). s.stage) c.self.view_is) c.in-Ready.is;
+      path = c.next_move.new.path;
+      looks = ap (λ (q : RequestText). moves q c.in-Ready.seen) (sym request) ∙ sym c.in-Look.ensures.is;
+      same = staged_is _ old _ _ _ c.self.view_is (sym (ap (λ (p : Phase). over_in p) c.in-Ready.is))
+          (ap (λ (s : Standing). wanting (asked_in s.input head) c.in-Ready.behind c.in-Ready.seen c.next_move.new.path) c.self.view_is);
+    }
+
+pub returns-in-Answer : goal.returns-in-Answer
+returns-in-Answer g c =
+    let old = c.args.self.now in
+    let head = c.in-Ready.head in
+    let inside = c.self.inside in
+    let moves = g.A.App.moves c.args.app.now in
+    let input : c.bytes-bytes.result.now ≡ old.input = c.bytes-bytes.ensures.is ∙ ap (λ (s : Standing). s.input) c.self.view_is in
+    let target = c.of-2.ensures ∙ ap (λ (t : List ℕ). span_bytes t head.target) input in
+    let request = request_is old.input head c.of.result.now c.of-2.result.now (c.of.ensures ∙ ap (λ (t : List ℕ). span_bytes t head.method) input) target in
+    record {
+      a = asked_in old.input head;
+      behind = c.in-Ready.behind;
+      seen = c.in-Ready.seen;
+      path = inside.path;
+      was = ready_at old inside.input inside.path inside.phase head c.in-Ready.behind c.in-Ready.seen (ap (λ (s : Standing). s.input) c.self.view_is)
+          (ap (λ (s : Standing). s.stage) c.self.view_is) c.in-Ready.is;
+      is = subst (λ (t : List ℕ). answer (outline_of t c.in-Answer.response) ≡ moves (request_of (asked_in old.input head)) c.in-Ready.seen) target
+          (c.in-Answer.ensures.is ∙ ap (λ (q : RequestText). moves q c.in-Ready.seen) request);
+      fits = subst (λ (t : List ℕ). Fits t c.in-Ready.seen c.in-Answer.response) target c.in-Answer.ensures.fits;
+      sendable = subst (λ (t : List ℕ). IsSendable t c.in-Answer.response) target c.in-Answer.ensures.sendable;
+      left = c.next_move.new.path;
+      same = staged_is _ old _ _ _ c.self.view_is refl
+          (ap (λ (p : Phase). stage_in inside.input c.next_move.new.path p) c.in-Ready.is
+          ∙ ap (λ (s : Standing). ready (asked_in s.input head) c.in-Ready.behind c.in-Ready.seen c.next_move.new.path) c.self.view_is);
+    }
