@@ -18,7 +18,7 @@ ghost use Rattle.warp_commands.specs.Served.{IsAnsweredFor};
 use crate::command::{Command, command_of};
 use crate::status::{Status, tell};
 use app_trait::FolderApp;
-use conn_loop::{Conn, End, Scratch, Step, Supply};
+use conn_loop::{Closing, Conn, End, Scratch, Step, Supply};
 use fd_cache::{Acquired, Cache, Lease, acquire_own, release_own};
 use outside::{Clock, Files, Link, RootOut, Sink};
 use std::alloc::Global;
@@ -112,7 +112,8 @@ fn served<L: Link, F: Files, C: Clock>(
         &mut scratch,
         &mut cache,
     );
-    if let Some(lease) = conn.finish().lease {
+    let Closing { lease, .. } = conn.finish();
+    if let Some(lease) = lease {
         release_own(&mut cache, lease);
     }
     status_of(step)
