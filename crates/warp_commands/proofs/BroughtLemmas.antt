@@ -17,7 +17,8 @@ use Rattle.app_trait.specs.Below.{LiesBelow, StaysBelow}
 use Rattle.app_trait.specs.FolderMoves.{folder_move}
 use Rattle.app_trait.specs.Moves.{AppMove, RequestText, look_at}
 use Rattle.app_trait.specs.declared.request.Seen.{Seen}
-use Rattle.conn_loop.specs.Causes.{CountsWaits, HasFault, IsCaused, Keeps}
+use Rattle.outside.specs.Moments.{ClockTold, Gains}
+use Rattle.conn_loop.specs.Causes.{Clocked, CountsWaits, HasFault, IsCaused, Keeps}
 use Rattle.conn_loop.specs.Replying.{request_of}
 use Rattle.conn_loop.specs.Stages.{Stage, unread, short, reading, refusing, ready, wanting, sending, unmade, broken, finished, failing}
 use Rattle.conn_loop.specs.Standing.{AsksFor, IsAskingStage, Standing, path_asked_at}
@@ -230,3 +231,27 @@ fails_held path_of supply.NoMemory c f g x since = subst (λ (o : Option Finish)
 pub leased_there : (folder : Option Folder) (path wanted : List ℕ) → path ≡ wanted → IfSome folder (λ f. path ≡ wanted)
 leased_there None path wanted is = tt
 leased_there (Some f) path wanted is = is
+
+-- ---- moments
+
+gains_more : (o p q : Option (List ℕ)) (a b : List ℕ) → Gains o p a → Gains p q b → Gains o q (a ++ b)
+gains_more o p None a b x y = tt
+gains_more o None (Some q) a b x y = absurd y
+gains_more None (Some p) (Some q) a b x y = absurd x
+gains_more (Some o) (Some p) (Some q) a b x y = y ∙ ap (λ (t : List ℕ). t ++ b) x ∙ append_assoc o a b
+
+gains_none : (o : Option (List ℕ)) → Gains o o []
+gains_none None = tt
+gains_none (Some o) = sym (append-nil o)
+
+-- a clock that wasn't asked
+pub clocked_first : (c : Standing) (k : ClockTold) → Clocked c c k k
+clocked_first c k = record { gained = []; grown = sym (append-nil c.moments); gave = record { gains = gains_none k.given; stays = refl } }
+
+-- the moments of two steps, behind which none came
+pub clocked_then : (first was now new : Standing) (k l m : ClockTold) → Clocked first was k l → Clocked was now l m → new.moments ≡ now.moments → Clocked first new k m
+clocked_then first was now new k l m x y same = record {
+  gained = x.gained ++ y.gained;
+  grown = same ∙ y.grown ∙ ap (λ (t : List ℕ). t ++ y.gained) x.grown ∙ append_assoc first.moments x.gained y.gained;
+  gave = record { gains = gains_more k.given l.given m.given x.gained y.gained x.gave.gains y.gave.gains; stays = y.gave.stays ∙ x.gave.stays };
+}

@@ -18,7 +18,7 @@ ghost use Rattle.warp_commands.specs.Served.{IsAnsweredFor};
 use crate::command::{Command, command_of};
 use crate::status::{Status, tell};
 use app_trait::FolderApp;
-use conn_loop::{Closing, Conn, End, Scratch, Step, Supply};
+use conn_loop::{Closing, Conn, End, Scratch, Step, Supply, sent_is_a_prefix};
 use fd_cache::{Acquired, Cache, Lease, acquire_own, release_own};
 use outside::{Clock, Files, Link, RootOut, Sink};
 use std::alloc::Global;
@@ -143,7 +143,10 @@ fn brought_on<L: Link, F: Files, C: Clock>(
         give_back(conn, cache);
         match step {
             Step::WantFile => supply_wanted(alloc, conn, files, cache),
-            step => return step,
+            step => {
+                sent_is_a_prefix();
+                return step;
+            }
         }
     }
 }
