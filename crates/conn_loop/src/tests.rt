@@ -177,7 +177,7 @@ fn three_pipelined_requests_are_answered_by_one_write(rt: HostRuntime) -> Result
     assert_eq!(rt; out.first, Step::Done(End::Clean));
     assert_eq!(rt; out.second, Step::Done(End::Clean));
     assert!(rt; out.sent == joined(alloc, &[ANSWER, ANSWER, ANSWER])?);
-    assert!(rt; out.moments.as_slice() == &[MOMENT, MOMENT, MOMENT]);
+    assert!(rt; out.moments.as_slice() == [MOMENT, MOMENT, MOMENT].as_slice());
     assert_eq!(rt; out.bytes, 420);
     assert_eq!(rt; out.waits, 0);
     Ok(())
