@@ -406,6 +406,77 @@ def check_odd_entries(checks, program, site):
         checks.equal(what + ", at once", time.monotonic() - began < 10, True)
 
 
+def pattern(start, size):
+    """Bytes of a file whose byte k is k mod 251."""
+    cycle = bytes(range(251))
+    shift = start % 251
+    return (cycle[shift:] + cycle * (size // 251 + 1))[:size]
+
+
+def read_head(stream):
+    """The head of an answer, from a pipe."""
+    head = b""
+    while not head.endswith(b"\r\n\r\n"):
+        byte = stream.read(1)
+        if not byte:
+            break
+        head += byte
+    return head
+
+
+def check_shrinking(checks, program, site):
+    """A file that shrinks while it is served ends the connection as a fault of the folder, and no wrong byte is sent."""
+    path, size, left = site.top / "shrinks.bin", 64 << 20, 1 << 20
+    path.write_bytes(pattern(0, size))
+    path.chmod(0o644)
+    run = program.start(site.root)
+    run.stdin.write(get("/shrinks.bin") + get("/"))
+    run.stdin.flush()
+    head = read_head(run.stdout)
+    got = run.stdout.read(100_000)
+    os.truncate(path, left)
+    rest, error = run.communicate(timeout=60)
+    got += rest
+    path.unlink()
+    checks.equal("the head of a file that shrinks", f"Content-Length: {size}\r\n".encode() in head, True)
+    checks.equal("its bytes", (got == pattern(0, len(got)), 100_000 <= len(got) <= left), (True, True))
+    checks.equal("its end", (run.returncode, error), (5, b"file fault\n"))
+
+
+def peak_memory(process):
+    """The most memory that a running process has held, in KiB."""
+    text = Path(f"/proc/{process.pid}/status").read_text()
+    return int(re.search(r"VmHWM:\s+(\d+) kB", text).group(1))
+
+
+def check_large_file(checks, program, site):
+    """A file of 3 GiB is served by a process that never holds 16 MiB."""
+    path, size, piece = site.top / "large.bin", 3 << 30, 1 << 20
+    with open(path, "wb") as file:
+        file.truncate(size)
+        file.seek(size - 5)
+        file.write(b"hello")
+    path.chmod(0o644)
+    run = program.start(site.root)
+    run.stdin.write(get("/large.bin"))
+    run.stdin.flush()
+    head = read_head(run.stdout)
+    zeros, taken, right = bytes(piece), 0, True
+    while taken < size:
+        got = run.stdout.read(min(piece, size - taken))
+        if not got:
+            break
+        want = zeros[: len(got)] if taken + len(got) <= size - 5 else zeros[: len(got) - 5] + b"hello"
+        right = right and got == want
+        taken += len(got)
+    memory = peak_memory(run)
+    rest, error = run.communicate(timeout=60)
+    path.unlink()
+    checks.equal("the head of 3 GiB", f"Content-Length: {size}\r\n".encode() in head, True)
+    checks.equal("3 GiB of content", (taken, right, rest, run.returncode, error), (size, True, b"", 0, b""))
+    checks.equal(f"memory for 3 GiB, {memory} KiB", memory < 16 * 1024, True)
+
+
 CHECKS = {
     name.removeprefix("check_"): check for name, check in list(globals().items()) if name.startswith("check_")
 }
