@@ -435,8 +435,11 @@ def check_shrinking(checks, program, site):
     head = read_head(run.stdout)
     got = run.stdout.read(100_000)
     os.truncate(path, left)
-    rest, error = run.communicate(timeout=60)
-    got += rest
+    # What the pipe's reader holds already is read by it alone, so `communicate` would leave it out.
+    run.stdin.close()
+    got += run.stdout.read()
+    error = run.stderr.read()
+    run.wait(timeout=60)
     path.unlink()
     checks.equal("the head of a file that shrinks", f"Content-Length: {size}\r\n".encode() in head, True)
     checks.equal("its bytes", (got == pattern(0, len(got)), 100_000 <= len(got) <= left), (True, True))
