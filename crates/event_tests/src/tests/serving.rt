@@ -191,6 +191,23 @@ fn book(alloc: Global) -> Result<Book, AllocError>
     Book::new(alloc, LINKS + 1, 1024)
 }
 
+/// Puts a row behind the others.
+fn push_row(
+    mgr: &EventManager<Job>,
+    queue: &ReadyQueue,
+    rows: &mut Vec<Row>,
+    row: Row,
+) -> Result<(), AllocError>
+    requires rows { All (λ row. ServesRow mgr.now queue.now row.pass row.kit.book) rows.old.items }
+    requires row { ServesRow mgr.now queue.now row.pass row.kit.book }
+    ensures { IfOk result (λ _. All (λ row. ServesRow mgr.now queue.now row.pass row.kit.book) rows.new.items) }
+{
+    // Lets the contract speak of the two.
+    let _shared = (mgr, queue);
+    rows.push(row)?;
+    Ok(())
+}
+
 #[test]
 fn two_dispatchers_finish_each_connection_once(rt: HostRuntime) -> Result<(), Fail> {
     let alloc = rt.alloc();
@@ -198,9 +215,11 @@ fn two_dispatchers_finish_each_connection_once(rt: HostRuntime) -> Result<(), Fa
     let (queue, mut place) = ReadyQueue::new(alloc, 8)?;
     let (first, second) = begin_all(&rt, alloc, &mgr, &queue, &mut pass, &mut place)?;
     let other = queue.split(&mut place)?;
+    let one = new_row(alloc, &mgr, &queue, &mut pass, place, first, book(alloc)?)?;
+    let two = new_row(alloc, &mgr, &queue, &mut pass, other, second, book(alloc)?)?;
     let mut rows = Vec::with_capacity(alloc, 2)?;
-    rows.push(new_row(alloc, &mgr, &queue, &mut pass, place, first, book(alloc)?)?)?;
-    rows.push(new_row(alloc, &mgr, &queue, &mut pass, other, second, book(alloc)?)?)?;
+    push_row(&mgr, &queue, &mut rows, one)?;
+    push_row(&mgr, &queue, &mut rows, two)?;
     assert!(rt; serve_all(&rt, alloc, &mgr, &queue, &mut rows)?);
     for row in &rows {
         assert_eq!(rt; row.kit.book.stale, 0);

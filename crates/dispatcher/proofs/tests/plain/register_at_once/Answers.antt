@@ -22,6 +22,5 @@ returns-in-Crowded-clause-made g c = subst (λ (es : List EventName). HasMadeCal
     (c.calls_of_runs.ensures.registered c.args.opening Read None (Payloads.Job c.args.job) (mgr_view c.args.pass.now) (Register.Crowded c.in-Crowded.field-0) (mgr_view c.register.new.pass) c.in-Crowded.ensures.step)
 
 pub returns-clause-made : goal.returns-clause-made
-returns-clause-made g c = subst (λ (es : List EventName). HasMadeCalls (mgr_view c.args.pass.now) es (mgr_view c.register.new.pass)) (sym c.named-2.ensures)
+returns-clause-made g c = subst (λ (es : List EventName). HasMadeCalls (mgr_view c.args.pass.now) es (mgr_view c.register.new.pass)) (sym c.named-in-Spent.ensures)
     (c.calls_of_runs.ensures.registered c.args.opening Read None (Payloads.Job c.args.job) (mgr_view c.args.pass.now) (Register.Spent c.in-Spent.field-0) (mgr_view c.register.new.pass) c.in-Spent.ensures.step)
-
