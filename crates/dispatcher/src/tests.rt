@@ -1,4 +1,3 @@
 //! Turns on one thread.
-mod plain;
 mod planned;
 mod turns;

@@ -68,11 +68,11 @@ module _ {T : Type 0} (tag : T → List (List ℕ)) (weigh : CallsWeigh tag) (p 
     pub owes_waits : (key : Key) (e : Option EventName) → HasRegistered tag p d m (Payloads.Job job) v (Register.Waits key e) w → Accounts finishes w jobs
     owes_waits key e h o k = ⊎_elim
         (λ (t : Gained (entry (Registers.Waits key e)) v w).
-            let x = t (accepted o (k + 1)) in
-            let y = t (ended o k) in
-            let a : of_job o (k + 1) (Kinds.Job (tag job)) ≡ one_if (is_job o (k + 1) p.number p.fd (n + 1)) = ap (λ l. of_job o (k + 1) (Kinds.Job l)) next in
-            let b : one_if (is_job o (k + 1) p.number p.fd (n + 1)) ≡ one_if (is_job o k p.number p.fd n) = ap one_if (next_is o k p.number p.fd n) in
-            let q = owes o k in omega arith)
+        let x = t (accepted o (k + 1)) in
+        let y = t (ended o k) in
+        let a : of_job o (k + 1) (Kinds.Job (tag job)) ≡ one_if (is_job o (k + 1) p.number p.fd (n + 1)) = ap (λ l. of_job o (k + 1) (Kinds.Job l)) next in
+        let b : one_if (is_job o (k + 1) p.number p.fd (n + 1)) ≡ one_if (is_job o k p.number p.fd n) = ap one_if (next_is o k p.number p.fd n) in
+        let q = owes o k in omega arith)
         (λ t. let z = t.0 in absurd (cc))
         (weigh.registered_by p d m (Payloads.Job job) v (Register.Waits key e) w h)
 
