@@ -1,11 +1,19 @@
-"""Runs `warp_serve connection ROOT` over pipes: what it writes, its status and its error line, on real folders."""
+"""Runs `warp_serve connection ROOT` over pipes and sockets: what it writes, its status and its error line, on real folders.
+
+    connection.py [-v] PROGRAM [NAME..]     all checks, or those named; -v prints the name of each
+"""
+import http.client
+import io
 import os
 import re
 import select
 import shutil
+import socket
 import subprocess
 import sys
 import tempfile
+import threading
+import time
 from pathlib import Path
 
 SITE = Path(__file__).resolve().parent.parent.parent / "examples" / "site"
@@ -45,12 +53,12 @@ class Program:
             [self.path, *words], stdin=subprocess.PIPE, stdout=subprocess.PIPE, stderr=subprocess.PIPE, **self.lowered()
         )
 
-    def run(self, words, text=b"", **streams):
+    def run(self, words, text=b"", timeout=60, **streams):
         """The status, the bytes written and the error text of a run, as nobody where this is root."""
         given = {} if "stdin" in streams else {"input": text}
         streams.setdefault("stdout", subprocess.PIPE)
         done = subprocess.run(
-            [self.path, *words], stderr=subprocess.PIPE, timeout=60, **self.lowered(), **given, **streams
+            [self.path, *words], stderr=subprocess.PIPE, timeout=timeout, **self.lowered(), **given, **streams
         )
         return done.returncode, done.stdout, done.stderr.decode()
 
@@ -80,9 +88,14 @@ def answer_of(content, kind, connection=""):
     return (head + connection + "\r\n").encode() + content
 
 
+class NotRun(Exception):
+    """A check that can't be run here, with the reason."""
+
+
 class Checks:
     def __init__(self):
-        self.passed = self.failed = self.skipped = 0
+        self.passed = self.failed = 0
+        self.not_run = []
 
     def equal(self, what, got, want):
         if got == want:
@@ -92,12 +105,22 @@ class Checks:
             print(f"end to end: {what}: got {str(got)[:400]}, not {str(want)[:400]}")
 
 
+class Site:
+    """The folders that the checks serve."""
+
+    def __init__(self, folder):
+        self.folder = Path(folder)
+        self.top = self.folder / "root"
+        self.files = make_folder(self.top)
+        self.root = ["connection", str(self.top)]
+
+
 def get(target, more=""):
     return f"GET {target} HTTP/1.1\r\nHost: a\r\n{more}\r\n".encode()
 
 
-def check_files(checks, program, top, files):
-    """Each file of a real folder comes byte for byte, with its type and length, under a Date."""
+def compare_files(checks, program, top, files):
+    """Each file of a folder comes byte for byte, with its type and length, under a Date."""
     for name, content in files.items():
         status, out, error = program.run(["connection", str(top)], get("/" + name))
         dates = len(DATE.findall(out))
@@ -105,35 +128,40 @@ def check_files(checks, program, top, files):
         checks.equal(f"GET /{name}", (status, dates, DATE.sub(b"\r\n", out, count=1), error), (0, 1, answer_of(content, kind), ""))
 
 
-def check_site(checks, program, folder):
+def check_files(checks, program, site):
+    """Each file of a real folder comes byte for byte, with its type and length, under a Date."""
+    compare_files(checks, program, site.top, site.files)
+
+
+def check_site(checks, program, site):
     """The site of the repository is served whole, each file with its type."""
-    top = Path(folder) / "site"
+    top = site.folder / "site"
     shutil.copytree(SITE, top)
     for path in [top, *top.rglob("*")]:
         path.chmod(0o755 if path.is_dir() else 0o644)
     files = {str(p.relative_to(top)): p.read_bytes() for p in sorted(top.rglob("*")) if p.is_file()}
-    check_files(checks, program, top, files)
+    compare_files(checks, program, top, files)
     text = b"".join(get("/" + name) for name in files)
     status, out, error = program.run(["connection", str(top)], text)
     want = b"".join(answer_of(content, TYPES[Path(name).suffix]) for name, content in files.items())
     checks.equal("the whole site on one connection", (status, DATE.sub(b"\r\n", out), error), (0, want, ""))
 
 
-def check_paths(checks, program, top):
+def check_paths(checks, program, site):
     """What is not in the folder is not found, whatever the path says."""
-    outside = top.parent / "outside.txt"
+    outside = site.folder / "outside.txt"
     outside.write_bytes(b"outside\n")
     outside.chmod(0o644)
     for target in ("/nope", "/secret.txt", "/../outside.txt", "/%2e%2e/outside.txt", "/a%2Fb", "//a.txt", "/.x", "/a.txt/"):
-        status, out, error = program.run(["connection", str(top)], get(target))
+        status, out, error = program.run(site.root, get(target))
         checks.equal(f"GET {target}", (status, out[:24], error), (0, b"HTTP/1.1 404 Not Found\r\n", ""))
-    status, out, error = program.run(["connection", str(top)], get("/sub?q=1"))
+    status, out, error = program.run(site.root, get("/sub?q=1"))
     checks.equal("GET /sub?q=1", (status, out[:32], b"\r\nLocation: /sub/?q=1\r\n" in out, error), (0, b"HTTP/1.1 301 Moved Permanently\r\n", True, ""))
 
 
-def check_statuses(checks, program, top, folder):
+def check_statuses(checks, program, site):
     """Each end of a connection has its status and its error line."""
-    root = ["connection", str(top)]
+    root = site.root
     whole = get("/", "Connection: close\r\n")
     for what, words, text, status, line in (
         ("no input", root, b"", 0, ""),
@@ -145,44 +173,40 @@ def check_statuses(checks, program, top, folder):
         ("one word too many", ["connection", "a", "b"], whole, 2, USAGE + "\n"),
         ("a misspelled command", ["conection", "a"], whole, 2, USAGE + "\n"),
         ("a word that is no text", ["connection", b"\xff"], whole, 2, USAGE + "\n"),
-        ("a missing root", ["connection", str(Path(folder) / "missing")], whole, 7, "no such folder\n"),
-        ("a root that is a file", ["connection", str(top / "a.txt")], whole, 7, "no such folder\n"),
+        ("a missing root", ["connection", str(site.folder / "missing")], whole, 7, "no such folder\n"),
+        ("a root that is a file", ["connection", str(site.top / "a.txt")], whole, 7, "no such folder\n"),
         ("bytes that are no request", root, b"\0\r\n\r\n", 0, ""),
     ):
         got = program.run(words, text)
         checks.equal(what, (got[0], got[2]), (status, line))
 
 
-def check_faults(checks, program, top, folder):
+def check_faults(checks, program, site):
     """A fault of a stream ends the connection with that stream's status."""
     reader, writer = os.pipe()
     os.close(reader)
-    got = program.run(["connection", str(top)], get("/"), stdout=writer)
+    got = program.run(site.root, get("/"), stdout=writer)
     os.close(writer)
     checks.equal("a closed standard output", (got[0], got[2]), (4, "write fault\n"))
-    folder_in = os.open(folder, os.O_RDONLY)
-    got = program.run(["connection", str(top)], stdin=folder_in)
+    folder_in = os.open(site.folder, os.O_RDONLY)
+    got = program.run(site.root, stdin=folder_in)
     os.close(folder_in)
     checks.equal("an input that is a folder", (got[0], got[1], got[2]), (3, b"", "read fault\n"))
 
 
-def check_cutting(checks, program, top):
-    """Requests that come a byte at a time are answered as in one piece."""
+def check_cutting(checks, program, site):
+    """Requests that come a byte at a time are answered as in one piece: the first forty bytes each after a wait."""
     text = get("/") + get("/a.txt") + b"HEAD /a.txt HTTP/1.1\r\nHost: a\r\n\r\n"
-    _, whole, _ = program.run(["connection", str(top)], text)
-    reader, writer = os.pipe()
-    child = os.fork()
-    if child == 0:
-        os.close(reader)
-        for k in range(len(text)):
-            os.write(writer, text[k : k + 1])
-        os._exit(0)
-    os.close(writer)
-    status, out, error = program.run(["connection", str(top)], stdin=reader)
-    os.close(reader)
-    os.waitpid(child, 0)
+    _, whole, _ = program.run(site.root, text)
+    run = program.start(site.root)
+    for k in range(len(text)):
+        run.stdin.write(text[k : k + 1])
+        run.stdin.flush()
+        if k < 40:
+            time.sleep(0.005)
+    out, error = run.communicate(timeout=60)
     same = DATE.sub(b"\r\n", out) == DATE.sub(b"\r\n", whole)
-    checks.equal("pieces of one byte", (status, len(out), same, error), (0, 140 + 1141 + 141, True, ""))
+    checks.equal("pieces of one byte", (run.returncode, len(out), same, error), (0, 140 + 1141 + 141, True, b""))
 
 
 def post(fields, body=b""):
@@ -198,7 +222,7 @@ NOT_ALLOWED = b"HTTP/1.1 405 Method Not Allowed"
 GO_ON = b"HTTP/1.1 100 Continue"
 
 
-def check_bodies(checks, program, top):
+def check_bodies(checks, program, site):
     """Bodies are passed over, and the requests behind them are answered and none in them."""
     hidden = get("/big.bin")
     chunked = b"5;a=b\r\nhello\r\n" + b"%x\r\n" % len(hidden) + hidden + b"\r\n0\r\nT: 1\r\n\r\n"
@@ -208,13 +232,13 @@ def check_bodies(checks, program, top):
         ("a body in chunks", post("Transfer-Encoding: chunked\r\n", chunked)),
         ("a body of 1 MiB", post("Content-Length: 1048576\r\n", b"G" * 1048576)),
     ):
-        status, out, error = program.run(["connection", str(top)], text + get("/"))
+        status, out, error = program.run(site.root, text + get("/"))
         checks.equal(what, (status, status_lines(out), out.endswith(b"\r\n\r\nhi\n"), error), (0, [NOT_ALLOWED, b"HTTP/1.1 200 OK"], True, ""))
-    got = program.run(["connection", str(top)], post("Content-Length: 5\r\n", b"hell"))
+    got = program.run(site.root, post("Content-Length: 5\r\n", b"hell"))
     checks.equal("a body cut short", got, (1, b"", "input cut short\n"))
 
 
-def check_framings(checks, program, top):
+def check_framings(checks, program, site):
     """What two servers may frame differently is refused and closes, and nothing behind it is answered."""
     for fields, body, line in (
         ("Content-Length: 5, 6\r\n", b"hello", b"HTTP/1.1 400 Bad Request"),
@@ -230,14 +254,14 @@ def check_framings(checks, program, top):
         ("Content-Length: 1048577\r\n", b"", b"HTTP/1.1 413 Content Too Large"),
         ("Expect: a miracle\r\nContent-Length: 5\r\n", b"hello", b"HTTP/1.1 417 Expectation Failed"),
     ):
-        status, out, error = program.run(["connection", str(top)], post(fields, body) + get("/"))
+        status, out, error = program.run(site.root, post(fields, body) + get("/"))
         closes = b"\r\nConnection: close\r\n\r\n" in out
         checks.equal(fields.strip() + " and " + repr(body), (status, status_lines(out), closes, error), (0, [line], True, ""))
 
 
-def check_interim(checks, program, top):
+def check_interim(checks, program, site):
     """A client that waits for leave to send its body gets it before the body is sent."""
-    run = program.start(["connection", str(top)])
+    run = program.start(site.root)
     run.stdin.write(post("Expect: 100-continue\r\nContent-Length: 5\r\n"))
     run.stdin.flush()
     ready, _, _ = select.select([run.stdout], [], [], 30)
@@ -247,25 +271,245 @@ def check_interim(checks, program, top):
     checks.equal("the answers behind it", (run.returncode, status_lines(out), error), (0, [NOT_ALLOWED, b"HTTP/1.1 200 OK"], b""))
 
 
-def main():
+class Kept(io.BytesIO):
+    """Bytes that `http.client` reads answers from as if they came from a socket."""
+
+    def makefile(self, *_):
+        return self
+
+    def close(self):
+        """Several answers are read from the same bytes."""
+
+
+def read_answers(out, methods):
+    """The status, type, length and content of each answer, as Python's own client reads them, and what it left unread."""
+    stream, answers = Kept(out), []
+    for method in methods:
+        answer = http.client.HTTPResponse(stream, method=method)
+        answer.begin()
+        content = answer.read()
+        answers.append((answer.status, answer.getheader("Content-Type"), answer.getheader("Content-Length"), content))
+    return answers, stream.read()
+
+
+def check_http_client(checks, program, site):
+    """Python's `http.client` reads each answer on one connection as it is meant, and nothing is left over."""
+    kinds = [("GET", "/" + name) for name in site.files] + [("HEAD", "/" + name) for name in site.files]
+    kinds += [("GET", "/nope"), ("GET", "/sub"), ("OPTIONS", "*"), ("DELETE", "/"), ("BREW", "/")]
+    text = b"".join(f"{method} {target} HTTP/1.1\r\nHost: a\r\n\r\n".encode() for method, target in kinds)
+    _, out, _ = program.run(site.root, text)
+    want = []
+    for method, target in kinds:
+        content = site.files.get(target[1:])
+        if content is not None:
+            kind = TYPES[Path(target).suffix]
+            want.append((200, kind, str(len(content)), content if method == "GET" else b""))
+        else:
+            status = {"/nope": 404, "/sub": 301, "*": 200, "/": 405 if method == "DELETE" else 501}[target]
+            want.append((status, None, "0", b""))
+    answers, left = read_answers(out, [method for method, _ in kinds])
+    for (method, target), got, one in zip(kinds, answers, want):
+        checks.equal(f"{method} {target}, read by http.client", got, one)
+    checks.equal("what http.client left unread", left, b"")
+
+
+class Door:
+    """A listening socket that gives each connection to a run of its own, as inetd does."""
+
+    def __init__(self, program, words):
+        self.program, self.words = program, words
+        self.listener = socket.create_server(("127.0.0.1", 0))
+        self.port = self.listener.getsockname()[1]
+        self.runs = []
+        threading.Thread(target=self.serve, daemon=True).start()
+
+    def serve(self):
+        while True:
+            try:
+                link, _ = self.listener.accept()
+            except OSError:
+                return
+            with link:
+                self.runs.append(
+                    subprocess.Popen([self.program.path, *self.words], stdin=link, stdout=link, **self.program.lowered())
+                )
+
+    def close(self):
+        """The statuses of the runs, once each has ended."""
+        self.listener.close()
+        return [run.wait(timeout=60) for run in self.runs]
+
+
+def check_sockets(checks, program, site):
+    """Over a socket Python's client keeps one connection for several requests, and closes it."""
+    door = Door(program, site.root)
+    client = http.client.HTTPConnection("127.0.0.1", door.port, timeout=60)
+    for name, content in site.files.items():
+        client.request("GET", "/" + name)
+        answer = client.getresponse()
+        checks.equal(f"GET /{name} over a socket", (answer.status, answer.read()), (200, content))
+    client.request("POST", "/a.txt", body=b"hello", headers={"Expect": "100-continue"})
+    answer = client.getresponse()
+    checks.equal("POST over a socket", (answer.status, answer.getheader("Allow"), answer.read()), (405, "GET, HEAD, OPTIONS", b""))
+    client.close()
+    checks.equal("one connection for all of it", door.close(), [0])
+
+
+def check_curl(checks, program, site):
+    """curl gets a file, follows the redirection of a folder and waits for leave to send a body."""
+    if not shutil.which("curl"):
+        raise NotRun("curl is missing")
+    door = Door(program, site.root)
+    base = f"http://127.0.0.1:{door.port}"
+    for what, words, want in (
+        ("a file", ["/a.txt"], site.files["a.txt"] + b"200"),
+        ("a folder without its slash", ["-L", "/sub"], site.files["sub/index.html"] + b"200"),
+        ("HEAD", ["-I", "-o", "/dev/null", "/big.bin"], b"200"),
+        ("a body after leave", ["-H", "Expect: 100-continue", "--data-binary", "x" * 4096, "/a.txt"], b"405"),
+    ):
+        url = base + words.pop()
+        done = subprocess.run(
+            ["curl", "-s", "--noproxy", "*", "-m", "30", "-w", "%{http_code}", *words, url], stdout=subprocess.PIPE, timeout=60
+        )
+        checks.equal(f"curl: {what}", (done.returncode, done.stdout), (0, want))
+    checks.equal("curl: the statuses of the runs", set(door.close()), {0})
+
+
+def check_odd_entries(checks, program, site):
+    """Links are followed, to a file and no further than they lead; what is no file is 404 at once."""
+    top = site.folder / "odd"
+    top.mkdir(mode=0o755)
+    (top / "plain.txt").write_bytes(b"plain\n")
+    (top / "plain.txt").chmod(0o644)
+    (top / "to_file.txt").symlink_to("plain.txt")
+    (top / "to_nowhere.txt").symlink_to("missing.txt")
+    (top / "circle.txt").symlink_to("round.txt")
+    (top / "round.txt").symlink_to("circle.txt")
+    (top / "folder.txt").mkdir(mode=0o755)
+    (top / "größe ß.txt").write_bytes("süß\n".encode())
+    (top / "größe ß.txt").chmod(0o644)
+    os.mkfifo(top / "pipe.txt")
+    (top / "pipe.txt").chmod(0o644)
+    found, absent = b"HTTP/1.1 200 OK", b"HTTP/1.1 404 Not Found"
+    for what, target, line, content in (
+        ("a link to a file", "/to_file.txt", found, b"plain\n"),
+        ("a link to nowhere", "/to_nowhere.txt", absent, b""),
+        ("links in a circle", "/circle.txt", absent, b""),
+        ("a folder with the name of a file", "/folder.txt", absent, b""),
+        ("a name in UTF-8", "/gr%C3%B6%C3%9Fe%20%C3%9F.txt", found, "süß\n".encode()),
+        ("a pipe", "/pipe.txt", absent, b""),
+    ):
+        began = time.monotonic()
+        status, out, error = program.run(["connection", str(top)], get(target), timeout=20)
+        head, _, got = out.partition(b"\r\n\r\n")
+        checks.equal(what, (status, head.split(b"\r\n")[0], got, error), (0, line, content, ""))
+        checks.equal(what + ", at once", time.monotonic() - began < 10, True)
+
+
+def pattern(start, size):
+    """Bytes of a file whose byte k is k mod 251."""
+    cycle = bytes(range(251))
+    shift = start % 251
+    return (cycle[shift:] + cycle * (size // 251 + 1))[:size]
+
+
+def read_head(stream):
+    """The head of an answer, from a pipe."""
+    head = b""
+    while not head.endswith(b"\r\n\r\n"):
+        byte = stream.read(1)
+        if not byte:
+            break
+        head += byte
+    return head
+
+
+def check_shrinking(checks, program, site):
+    """A file that shrinks while it is served ends the connection as a fault of the folder, and no wrong byte is sent."""
+    path, size, left = site.top / "shrinks.bin", 64 << 20, 1 << 20
+    path.write_bytes(pattern(0, size))
+    path.chmod(0o644)
+    run = program.start(site.root)
+    run.stdin.write(get("/shrinks.bin") + get("/"))
+    run.stdin.flush()
+    head = read_head(run.stdout)
+    got = run.stdout.read(100_000)
+    os.truncate(path, left)
+    # What the pipe's reader holds already is read by it alone, so `communicate` would leave it out.
+    run.stdin.close()
+    got += run.stdout.read()
+    error = run.stderr.read()
+    run.wait(timeout=60)
+    path.unlink()
+    checks.equal("the head of a file that shrinks", f"Content-Length: {size}\r\n".encode() in head, True)
+    checks.equal("its bytes", (got == pattern(0, len(got)), 100_000 <= len(got) <= left), (True, True))
+    checks.equal("its end", (run.returncode, error), (5, b"file fault\n"))
+
+
+def peak_memory(process):
+    """The most memory that a running process has held, in KiB."""
+    text = Path(f"/proc/{process.pid}/status").read_text()
+    return int(re.search(r"VmHWM:\s+(\d+) kB", text).group(1))
+
+
+def check_large_file(checks, program, site):
+    """A file of 3 GiB is served by a process that never holds 16 MiB."""
+    path, size, piece = site.top / "large.bin", 3 << 30, 1 << 20
+    with open(path, "wb") as file:
+        file.truncate(size)
+        file.seek(size - 5)
+        file.write(b"hello")
+    path.chmod(0o644)
+    run = program.start(site.root)
+    run.stdin.write(get("/large.bin"))
+    run.stdin.flush()
+    head = read_head(run.stdout)
+    zeros, taken, right = bytes(piece), 0, True
+    while taken < size:
+        got = run.stdout.read(min(piece, size - taken))
+        if not got:
+            break
+        want = zeros[: len(got)] if taken + len(got) <= size - 5 else zeros[: len(got) - 5] + b"hello"
+        right = right and got == want
+        taken += len(got)
+    memory = peak_memory(run)
+    rest, error = run.communicate(timeout=60)
+    path.unlink()
+    checks.equal("the head of 3 GiB", f"Content-Length: {size}\r\n".encode() in head, True)
+    checks.equal("3 GiB of content", (taken, right, rest, run.returncode, error), (size, True, b"", 0, b""))
+    checks.equal(f"memory for 3 GiB, {memory} KiB", memory < 16 * 1024, True)
+
+
+CHECKS = {
+    name.removeprefix("check_"): check for name, check in list(globals().items()) if name.startswith("check_")
+}
+
+
+def main(words):
+    loud = "-v" in words
+    built, *names = [word for word in words if word != "-v"]
+    unknown = [name for name in names if name not in CHECKS]
+    if unknown:
+        print(f"end to end: no check is named {unknown[0]}; there are {', '.join(CHECKS)}")
+        return 2
     checks = Checks()
     with tempfile.TemporaryDirectory() as folder:
         os.chmod(folder, 0o755)
-        program = Program(sys.argv[1], folder)
-        top = Path(folder) / "root"
-        files = make_folder(top)
-        check_files(checks, program, top, files)
-        check_site(checks, program, folder)
-        check_paths(checks, program, top)
-        check_statuses(checks, program, top, folder)
-        check_faults(checks, program, top, folder)
-        check_cutting(checks, program, top)
-        check_bodies(checks, program, top)
-        check_framings(checks, program, top)
-        check_interim(checks, program, top)
+        program, site = Program(built, folder), Site(folder)
+        for name in names or CHECKS:
+            try:
+                CHECKS[name](checks, program, site)
+            except NotRun as reason:
+                checks.not_run.append(f"{name} ({reason})")
+            except subprocess.TimeoutExpired:
+                checks.equal(f"{name}: every run ends", False, True)
+            if loud:
+                print(name)
     print(f"{checks.passed} passed, {checks.failed} failed")
+    if checks.not_run:
+        print(f"end to end: NOT RUN: {', '.join(checks.not_run)}")
     return 1 if checks.failed else 0
 
 
 if __name__ == "__main__":
-    sys.exit(main())
+    sys.exit(main(sys.argv[1:]))

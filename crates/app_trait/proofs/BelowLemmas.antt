@@ -90,7 +90,7 @@ index_named : is_file_name (codes "index.html") ≡ true
 unfolding is_name
 index_named = rw index_text refl
 
--- names, and the index behind them
+-- names, and the index after them
 behind : List (List ℕ) → List (List ℕ)
 behind [] = codes "index.html" ∷ []
 behind (x ∷ xs) = x ∷ behind xs
@@ -116,7 +116,7 @@ folder_below (s ∷ more) full some names = record {
 
 -- ---- the names of an index
 
--- the names of all segments but the last, and the index behind them
+-- the names of all segments but the last, and the index after them
 index_names : List (List ℕ) → List (List ℕ)
 index_names [] = codes "index.html" ∷ []
 index_names (s ∷ []) = codes "index.html" ∷ []

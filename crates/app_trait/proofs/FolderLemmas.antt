@@ -105,6 +105,6 @@ route_unsent folder routed.not_found target = refl
 route_unsent folder (routed.index path) target = index_unsent (file_at folder path) path
 route_unsent folder (routed.path path) target = path_unsent folder (file_at folder path) path target
 
--- HEAD gets no bytes behind it
+-- HEAD gets no bytes after it
 pub sent_bytes-HEAD : (folder : Folder) (get head : RequestText) → AsksHead get head → sent_bytes (folder_reply folder head).content ≡ []
 sent_bytes-HEAD folder get head asks = rw (by_head folder head asks.by_head) (route_unsent folder (route_of head.target) head.target)

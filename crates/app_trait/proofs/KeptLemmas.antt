@@ -1,14 +1,13 @@
 -- What a kept path tells: which look was made, and what it was for.
-use Rattle.std.proofs.Common.{◌≡◌, ℕ, Bool, true, false, List, Option, Some, None, refl, subst, ap}
+use Rattle.std.proofs.Common.{◌≡◌, ℕ, Bool, false, List, Option, Some, None, refl}
 use Rattle.path_rules.specs.Route.{RouteOf, route_of}
 use Rattle.path_rules.specs.Route as routed
 use Rattle.app_trait.specs.declared.request.Seen.{Seen}
 use Rattle.app_trait.specs.declared.request.Seen.TheVariants.{Nothing, FirstFound, FirstAbsent, SecondFound, SecondAbsent}
 use Rattle.app_trait.specs.declared.method.Method.{Method}
-use Rattle.app_trait.specs.declared.method.Method.TheVariants.{Get, Head, Options, Refused, Unknown}
 use Rattle.app_trait.specs.Method.{method_of}
 use Rattle.app_trait.specs.Seen.{next_seen, first_seen, second_seen}
-use Rattle.app_trait.specs.Moves.{RequestText, AppMove, look_at, answer, WasLookedFor, PathKept}
+use Rattle.app_trait.specs.Moves.{RequestText, AppMove, look_at, answer, PathKept}
 use Rattle.app_trait.specs.FolderMoves.{plain, found_at, moved_from, move_by_route, move_by_method, folder_move}
 
 -- after a look its path is kept

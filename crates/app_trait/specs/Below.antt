@@ -4,8 +4,7 @@ use Rattle.std.specs.List.{list_all, join_with_byte}
 use Rattle.path_rules.specs.Route.{is_empty, is_name}
 use Rattle.app_trait.specs.Moves.{AppMove, look_at, answer}
 
--- a name of a folder or a file: at least one byte, and as `is_name` says at most 255 bytes of UTF-8 with no `.` at the
--- front and with no NUL, `/` or `\`
+-- a name of a folder or a file: at least one byte, and what `is_name` says
 abbrev pub is_file_name : List ℕ → Bool
 is_file_name name = not (is_empty name) && is_name name
 

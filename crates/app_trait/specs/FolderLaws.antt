@@ -38,6 +38,7 @@ method_absent Options target = tt
 method_absent Refused target = tt
 method_absent Unknown target = tt
 
+-- after two looks the folder answers
 pub folder_ends : EndsWithTwo folder_move
 unfolding folder_move
 folder_ends = record {
@@ -107,6 +108,7 @@ method_proper Options target seen = plain_proper 200 true seen refl (λ e. omega
 method_proper Refused target seen = plain_proper 405 true seen refl (λ e. omega arith)
 method_proper Unknown target seen = plain_proper 501 false seen refl (λ e. omega arith)
 
+-- each answer of the folder is proper
 pub folder_proper : (request : RequestText) (seen : Seen) → IsProperMove seen (folder_move request seen)
 unfolding folder_move
 folder_proper request seen = method_proper (method_of request.method) request.target seen

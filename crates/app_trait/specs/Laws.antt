@@ -5,7 +5,7 @@ use Rattle.warp_response.specs.declared.response.Response.{Response}
 use Rattle.warp_response.specs.Reply.{IsResponseFor, IsSendable}
 use Rattle.app_trait.specs.declared.request.Seen.{Seen}
 use Rattle.app_trait.specs.declared.request.Seen.TheVariants.{Nothing}
-use Rattle.app_trait.specs.Moves.{RequestText, Outline, AppMove, look_at, answer, Moves, EndsWithTwo, IsProper}
+use Rattle.app_trait.specs.Moves.{RequestText, Outline, look_at, answer, Moves, EndsWithTwo, IsProper}
 use Rattle.app_trait.specs.ReplyTo.{reply_to, reply_after, SawFound, facts_of, filled}
 use Rattle.app_trait.specs.Seen.{next_seen}
 use Rattle.app_trait.specs.Shown.{outline_of, Fits}

@@ -14,7 +14,7 @@ use crate::request::{Request, Seen};
 use path_rules::{PathBuf8, Route, content_type, query, raw_path, route};
 use warp_response::{Content, Place, Response, status};
 
-/// What is behind the path of a folder at the path of its index.
+/// What is after the path of a folder at the path of its index.
 const INDEX: &str = "/index.html";
 
 /// The application that serves the files of a folder.
@@ -51,7 +51,7 @@ impl FolderApp {
     ghost use Rattle.app_trait.specs.FolderReply.{folder_reply, AsksHead};
 
     /// A law, and no work: whatever a folder has, the looks and the answer of its application come to the reply of its
-    /// table; HEAD gets the head that GET gets, with no bytes behind it (RFC 9110, section 9.3.2); and whatever a request
+    /// table; HEAD gets the head that GET gets, with no bytes after it (RFC 9110, section 9.3.2); and whatever a request
     /// says, what is looked for lies below the folder.
     pub fn serves(&self)
         ensures table { (folder : Folder) (request : RequestText)

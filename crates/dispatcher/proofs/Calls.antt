@@ -59,14 +59,14 @@ runs_then u v w a b = record {
   calls = of_run_both a.made b.made a.calls b.calls;
 }
 
-runs_entered : (e : Entry) → IsOfRun e → (x y : View Entry) → StripeEntered e x y → RunsAt x y
-runs_entered e of x y k = record { grown = entered_stripe e x y k; made = (seat_of x, e) ∷ []; own = k.own; calls = (of, tt) }
+runs_entered : (s : ℕ) (e : Entry) → IsOfRun e → (x y : View Entry) → StripeEntered s e x y → RunsAt x y
+runs_entered s e of x y k = record { grown = entered_stripe s e x y k; made = (seat_of x, e) ∷ []; own = k.own; calls = (of, tt) }
 
-spent_stripe : (x y : View Entry) → StripeSpent x y → HasGrown x y
-spent_stripe x y k = grown_as x y k.unmoved.name k.unmoved.seen k.unmoved.classes (λ _. k.met_spent)
+spent_stripe : (s : ℕ) (x y : View Entry) → StripeSpent s x y → HasGrown x y
+spent_stripe s x y k = grown_as x y k.unmoved.name k.unmoved.seen k.unmoved.classes (λ _. k.met_spent)
 
-runs_spent : (x y : View Entry) → StripeSpent x y → RunsAt x y
-runs_spent x y k = record { grown = spent_stripe x y k; made = []; own = (λ i. own_of (k.unmoved.seen i) (k.unmoved.classes i)) ∙ sym (append-nil (own_entries x)); calls = tt }
+runs_spent : (s : ℕ) (x y : View Entry) → StripeSpent s x y → RunsAt x y
+runs_spent s x y k = record { grown = spent_stripe s x y k; made = []; own = (λ i. own_of (k.unmoved.seen i) (k.unmoved.classes i)) ∙ sym (append-nil (own_entries x)); calls = tt }
   where
     own_of : Log Entry → List (ℕ × ℕ) → Log Entry
     own_of seen classes = own_entries (record x { seen = seen; classes = classes })
@@ -110,16 +110,16 @@ module _ (s : ℕ) (v w : MgrView) (grown : HasGrown v.numbers w.numbers) where
   runs_at : (R : View Entry → View Entry → Type 0) → ((x y : View Entry) → R x y → RunsAt x y) → At s R v.stripes w.stripes → Each RunsAt v.stripes w.stripes
   runs_at R of a = subst (λ (l : List (View Entry)). Each RunsAt v.stripes l) (sym a.others) (each_set RunsAt runs_nothing v.stripes s a.before a.after a.there (of a.before a.after a.moved))
 
-  calls_at : (e : Entry) → IsOfRun e → At s (StripeEntered e) v.stripes w.stripes → HasMadeCalls v (named_by e) w
+  calls_at : (e : Entry) → IsOfRun e → At s (StripeEntered s e) v.stripes w.stripes → HasMadeCalls v (named_by e) w
   calls_at e of a = record {
-    stripes = runs_at (StripeEntered e) (runs_entered e of) a;
+    stripes = runs_at (StripeEntered s e) (runs_entered s e of) a;
     numbers = grown;
     named = λ h. entered_weighs (λ t. weigh h (named_by t)) s between w e (record { stripe = a; numbers = refl });
   }
 
-  calls_spent : At s StripeSpent v.stripes w.stripes → HasMadeCalls v [] w
+  calls_spent : At s (StripeSpent s) v.stripes w.stripes → HasMadeCalls v [] w
   calls_spent a = record {
-    stripes = runs_at StripeSpent runs_spent a;
+    stripes = runs_at (StripeSpent s) (runs_spent s) a;
     numbers = grown;
     named = λ h. let k : weigh_shown named_by h w ≡ weigh_shown named_by h v = spent_weighs (λ t. weigh h (named_by t)) s between w (record { stripe = a; numbers = refl }) in omega arith;
   }

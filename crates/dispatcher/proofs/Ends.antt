@@ -18,13 +18,14 @@ use Rattle.poller.specs.Polls.{Report}
 use Rattle.event_mgr.specs.Manager.{MgrView, EnteredAt, SpentAt, mgr_view}
 use Rattle.dispatcher.specs.Meanings.{RunnerMeaning}
 use Rattle.dispatcher.specs.declared.pass.DispPass.{DispPass}
-use Rattle.dispatcher.specs.declared.turned.Halt.{Halt}
+use Rattle.dispatcher.specs.declared.outcome.Halt.{Halt}
 use Rattle.dispatcher.specs.Entries.{firings, fired_by, reported_by}
 use Rattle.dispatcher.specs.Books.{IsAccounted}
-use Rattle.dispatcher.specs.Dealing.{HasDealt, HasDealtAny}
+use Rattle.dispatcher.specs.Enqueue.{IsPutOrKept, IsPutOrKeptAny}
 use Rattle.dispatcher.specs.Firings.{job_keys_of}
 use Rattle.dispatcher.specs.Turns.{book_of, book_with, work_with, HasRunKeys, HasHalted, HasMetSpent, HasReportedOne, HasLeftReports, RefusedAt}
-use Rattle.dispatcher.specs.declared.turned.Halt.TheVariants as Halts
+use Rattle.dispatcher.specs.declared.outcome.Halt.TheVariants as Halts
+use Rattle.dispatcher.specs.declared.outcome.ReportOut.TheVariants as R
 use Rattle.dispatcher.proofs.Grown.{grown_then}
 use Rattle.dispatcher.proofs.Accounts.{balanced_then, accounted_then}
 use Rattle.dispatcher.proofs.Weighs.{taken_weighs}
@@ -33,13 +34,13 @@ use Rattle.dispatcher.proofs.WorkSteps.{idle_step, spent_step}
 use Rattle.dispatcher.proofs.Replies.{cause_later, met_later}
 
 -- an event that is dealt with isn't taken
-pub deal_takes_none : (h : EventName → ℕ) (capacity : ℕ) (e : EventName) (v : View Move) (xs : List EventName) (w : View Move) (ys : List EventName) → HasDealt capacity e v xs w ys → weigh_taken h (own_entries w) ≡ weigh_taken h (own_entries v)
+pub deal_takes_none : (h : EventName → ℕ) (capacity : ℕ) (e : EventName) (v : View Move) (xs : List EventName) (w : View Move) (ys : List EventName) → IsPutOrKept capacity e v xs w ys → weigh_taken h (own_entries w) ≡ weigh_taken h (own_entries v)
 deal_takes_none h capacity e v xs w ys d = ⊎_elim
     (λ (t : HasMoved capacity (Put e) v w × (ys ≡ xs)). let k = taken_weighs h capacity v w (Put e) t.0 in omega arith)
     (λ (t : WasFull capacity v w × (ys ≡ xs ++ e ∷ [])). ap (λ (z : View Move). weigh_taken h (own_entries z)) t.0.same)
     d
 
-pub deal_any_takes_none : (h : EventName → ℕ) (capacity : ℕ) (o : Option EventName) (v : View Move) (xs : List EventName) (w : View Move) (ys : List EventName) → HasDealtAny capacity o v xs w ys → weigh_taken h (own_entries w) ≡ weigh_taken h (own_entries v)
+pub deal_any_takes_none : (h : EventName → ℕ) (capacity : ℕ) (o : Option EventName) (v : View Move) (xs : List EventName) (w : View Move) (ys : List EventName) → IsPutOrKeptAny capacity o v xs w ys → weigh_taken h (own_entries w) ≡ weigh_taken h (own_entries v)
 deal_any_takes_none h capacity None v xs w ys d = ap (λ (z : View Move). weigh_taken h (own_entries z)) d.0
 deal_any_takes_none h capacity (Some e) v xs w ys d = deal_takes_none h capacity e v xs w ys d
 
@@ -106,7 +107,7 @@ module _ {X P : Type 0} (meaning : RunnerMeaning X P) (on : (x y z : X) → mean
 
   -- a part went on over pairs, and the report of the next one was refused as spent
   pub left_refused : {T : Type 0} (capacity n : ℕ) (p : DispPass T) (x : X) (pairs : List Report) (q : DispPass T) (y : X) (pair : Report) (rest left : List Report) (r : DispPass T)
-      → IsAccounted capacity (book_of p) (book_of q) → HasRunKeys meaning n (work_with [] pairs p) x (work_with [] left q) y → left ≡ pair ∷ rest → HasReportedOne meaning capacity pair q y false r → HasLeftReports meaning p x pairs Halts.Spent r y left
+      → IsAccounted capacity (book_of p) (book_of q) → HasRunKeys meaning n (work_with [] pairs p) x (work_with [] left q) y → left ≡ pair ∷ rest → HasReportedOne meaning capacity pair q y R.Spent r → HasLeftReports meaning p x pairs Halts.Spent r y left
   unfolding worked_then more_pairs
   left_refused {T} capacity n p x pairs q y pair rest left r a w is k =
       let w' = subst (λ (l : List Report). HasRunKeys meaning n (work_with [] pairs p) x (work_with [] l q) y) is w in

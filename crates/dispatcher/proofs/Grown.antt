@@ -10,7 +10,7 @@ use Rattle.turn_cell.specs.View.{own_entries, seat_of}
 use Rattle.event_mgr.specs.Stripes.{StripeEntered, StripeSpent}
 use Rattle.event_mgr.specs.Manager.{MgrView, OnlyAt, EnteredAt, SpentAt}
 use Rattle.dispatcher.specs.Stripes.{Each, HasGrown, AllGrown}
-use Rattle.dispatcher.specs.Runs.{RunsAt, HasRun}
+use Rattle.dispatcher.specs.Runs.{RunsAt, RunMade}
 use Rattle.dispatcher.specs.declared.runner.AfterRun.{AfterRun}
 use Rattle.dispatcher.proofs.Lists.{begins_same, begins_then, begins_two, begins_one}
 
@@ -76,8 +76,8 @@ only_at_grown s R of v w a = record {
   numbers = subst (λ z. HasGrown v.numbers z) (sym a.numbers) (grown_same v.numbers);
 }
 
-pub entered_stripe : (e : Entry) (x y : View Entry) → StripeEntered e x y → HasGrown x y
-entered_stripe e x y k = record {
+pub entered_stripe : (s : ℕ) (e : Entry) (x y : View Entry) → StripeEntered s e x y → HasGrown x y
+entered_stripe s e x y k = record {
   name = k.name;
   classes = k.classes;
   seen = begins_two x.seen k.between ((seat_of x, e) ∷ []) y.seen k.seen;
@@ -86,10 +86,10 @@ entered_stripe e x y k = record {
 }
 
 pub entered_grown : (s : ℕ) (e : Entry) (v w : MgrView) → EnteredAt s e v w → AllGrown v w
-entered_grown s e v w a = only_at_grown s (StripeEntered e) (entered_stripe e) v w a
+entered_grown s e v w a = only_at_grown s (StripeEntered s e) (entered_stripe s e) v w a
 
 pub spent_grown : (s : ℕ) (v w : MgrView) → SpentAt s v w → AllGrown v w
-spent_grown s v w a = only_at_grown s StripeSpent (λ x y k. grown_as x y k.unmoved.name k.unmoved.seen k.unmoved.classes (λ _. k.met_spent)) v w a
+spent_grown s v w a = only_at_grown s (StripeSpent s) (λ x y k. grown_as x y k.unmoved.name k.unmoved.seen k.unmoved.classes (λ _. k.met_spent)) v w a
 
-pub run_grown : (v : MgrView) (r : AfterRun) (w : MgrView) → HasRun v r w → AllGrown v w
+pub run_grown : (v : MgrView) (r : AfterRun) (w : MgrView) → RunMade v r w → AllGrown v w
 run_grown v r w k = record { stripes = each_of RunsAt HasGrown (λ x y h. h.grown) v.stripes w.stripes k.stripes; numbers = k.numbers }

@@ -12,3 +12,4 @@ pub mod Ends
 pub mod Parts
 pub mod Rotates
 pub mod Calls
+pub mod Polled

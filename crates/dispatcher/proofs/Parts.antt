@@ -9,16 +9,16 @@ use Rattle.poller.specs.Polls.{Report}
 use Rattle.ready_queue.specs.Calls.{view_of}
 use Rattle.event_mgr.specs.Manager.{mgr_view}
 use Rattle.dispatcher.specs.declared.pass.DispPass.{DispPass}
-use Rattle.dispatcher.specs.declared.turned.Halt.{Halt}
-use Rattle.dispatcher.specs.declared.turned.Halt.TheVariants as Halts
-use Rattle.dispatcher.specs.declared.turned.Count.{Count}
+use Rattle.dispatcher.specs.declared.outcome.Halt.{Halt}
+use Rattle.dispatcher.specs.declared.outcome.Halt.TheVariants as Halts
+use Rattle.dispatcher.specs.declared.outcome.TurnTally.{TurnTally}
 use Rattle.poller.specs.Meanings.{PollerMeaning}
 use Rattle.dispatcher.specs.Meanings.{RunnerMeaning}
 use Rattle.dispatcher.specs.Told.{Gains}
 use Rattle.reg_keys.specs.declared.event.EventName.{EventName}
 use Rattle.dispatcher.specs.Books.{WasFullWithin, IsLeftOf, PutsAll, IsAccounted}
 use Rattle.dispatcher.specs.Firings.{job_keys_of}
-use Rattle.dispatcher.specs.Turns.{book_of, work_with, turned_of, HasRunKeys, HasHalted, HasReportedAll, HasLeftReports, TakesNone, HasTaken, IsEnded, HasTurned, RefusedAt, HasPolled}
+use Rattle.dispatcher.specs.Turns.{book_of, work_with, turned_of, HasRunKeys, HasHalted, HasReportedAll, HasLeftReports, TakesNone, EventsTaken, IsEnded, HasTurned, RefusedAt, HasPolled}
 use Rattle.dispatcher.proofs.Within.{within_later, within_sooner}
 use Rattle.dispatcher.proofs.Accounts.{balanced_then, left_none}
 use Rattle.dispatcher.proofs.Works.{worked_then, run_then, more_pairs, run_more_pairs}
@@ -34,7 +34,7 @@ gains_piece (Some l) None piece e = tt
 gains_piece (Some l) (Some n) piece e = cc
 
 -- a part in the midst took so many, and those round it none
-pub taken_around : {T : Type 0} (capacity max : ℕ) (p q r s : DispPass T) → TakesNone p q → HasTaken capacity max q r → TakesNone r s → IsAccounted capacity (book_of p) (book_of q) → IsAccounted capacity (book_of r) (book_of s) → HasTaken capacity max p s
+pub taken_around : {T : Type 0} (capacity max : ℕ) (p q r s : DispPass T) → TakesNone p q → EventsTaken capacity max q r → TakesNone r s → IsAccounted capacity (book_of p) (book_of q) → IsAccounted capacity (book_of r) (book_of s) → EventsTaken capacity max p s
 taken_around capacity max p q r s a t b g k = ⊎_elim
     (λ h. inl (omega arith))
     (λ h. inr (within_sooner capacity (λ events. events ≡ []) (view_of p.queue) (view_of q.queue) (view_of s.queue) g.queue (within_later capacity (λ events. events ≡ []) (view_of q.queue) (view_of r.queue) (view_of s.queue) h k.queue)))
@@ -98,7 +98,7 @@ module _ {X P T : Type 0} (meaning : RunnerMeaning X P) (told : PollerMeaning P)
     turned_left capacity max n p x pairs q y Halts.Spent left r z a w gave poll k = (ended_left capacity n p x pairs q y Halts.Spent left r z a w gave poll k, met_later (mgr_view p.mgr) (mgr_view q.mgr) (mgr_view r.mgr) w.0.grown k.cause)
 
     -- so many keys were run before the poll, and so many as pairs were reported
-    pub done_work : (n : ℕ) (p : DispPass T) (x : X) (pairs : List Report) (q : DispPass T) (y : X) (count : Count) (r : DispPass T) (z : X) (left : List Report)
+    pub done_work : (n : ℕ) (p : DispPass T) (x : X) (pairs : List Report) (q : DispPass T) (y : X) (count : TurnTally) (r : DispPass T) (z : X) (left : List Report)
         → HasRunKeys meaning n (work_with [] [] p) x (work_with [] [] q) y → HasReportedAll meaning count q y pairs r z left → HasRunKeys meaning (n + count.ran) (work_with [] pairs p) x (work_with [] [] r) z
     done_work n p x pairs q y count r z left w k = run_then meaning on n count.ran (work_with [] pairs p) x (work_with [] pairs q) y (work_with [] [] r) z
         (run_more_pairs meaning n (mgr_view p.mgr) (mgr_view q.mgr) [] [] [] [] pairs x y w) (k.work, k.ran)

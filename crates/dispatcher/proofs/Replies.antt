@@ -19,8 +19,8 @@ use Rattle.stripe_table.specs.Calls.{fired_key}
 use Rattle.event_mgr.specs.Stripes.{stripe_of, StripeSpent}
 use Rattle.event_mgr.specs.Manager.{MgrView, EnteredAt, SpentAt, HasReported, HasDispatched, own_in, own_by}
 use Rattle.event_mgr.proofs.Weights.{entered_own, stripe_after}
-use Rattle.dispatcher.specs.declared.turned.Halt.{Halt}
-use Rattle.dispatcher.specs.declared.turned.Halt.TheVariants as H
+use Rattle.dispatcher.specs.declared.outcome.Halt.{Halt}
+use Rattle.dispatcher.specs.declared.outcome.Halt.TheVariants as H
 use Rattle.dispatcher.specs.Entries.{IsSpentEntry}
 use Rattle.dispatcher.specs.Stripes.{Each, HasGrown, AllGrown}
 use Rattle.dispatcher.specs.Turns.{HasMetSpent, HasHaltCause}
@@ -52,7 +52,7 @@ pub met_entry : (s : ℕ) (e : Entry) (v w : MgrView) → EnteredAt s e v w → 
 met_entry s e v w a is = let o = entered_own s e v w a in (s, inr ([], o.0, e, o.1 ∙ ap (λ (l : Log Entry). l ++ (o.0, e) ∷ []) (sym (append-nil (own_in s v))), is))
 
 pub met_cell : (s : ℕ) (v w : MgrView) → SpentAt s v w → HasMetSpent v w
-met_cell s v w a = (s, inl (a.stripe.after, stripe_after s StripeSpent v w a, a.stripe.moved.found, a.stripe.moved.met_spent))
+met_cell s v w a = (s, inl (a.stripe.after, stripe_after s (StripeSpent s) v w a, a.stripe.moved.found, a.stripe.moved.met_spent))
 
 pub met_either : (s : ℕ) (e : Entry) (v w : MgrView) → EnteredAt s e v w ⊎ SpentAt s v w → IsSpentEntry e → HasMetSpent v w
 met_either s e v w c is = ⊎_elim (λ t. met_entry s e v w t is) (λ t. met_cell s v w t) c

@@ -15,7 +15,7 @@ use Rattle.event_mgr.proofs.Weights.{entered_own, others_own, stripe_before, str
 use Rattle.turn_cell.specs.History.{entries_in}
 use Rattle.dispatcher.specs.Entries.{IsOfRun, fired_by, reported_by}
 use Rattle.dispatcher.specs.Stripes.{Each, Shows, shown_in, of_stripe, AreOfRun}
-use Rattle.dispatcher.specs.Runs.{RunsAt, HasRun}
+use Rattle.dispatcher.specs.Runs.{RunsAt, RunMade}
 use Rattle.dispatcher.specs.declared.runner.AfterRun.{AfterRun}
 
 module _ {X : Type 0} where
@@ -56,7 +56,7 @@ module _ {X : Type 0} (show : Entry → List (Opening × X)) where
   pub shows_entered : (s : ℕ) (e : Entry) (v w : MgrView) → EnteredAt s e v w → of_stripe s (show e) ≡ show e → ((t : ℕ) → t ≢ s → of_stripe t (show e) ≡ []) → Shows show v (show e) w
   shows_entered s e v w a here there t = ⊎_elim
       (λ (i : t ≡ s). let o = entered_own s e v w a in subst (λ (k : ℕ). shown_in show (own_in k w) ≡ shown_in show (own_in k v) ++ of_stripe k (show e)) (sym i) (shown-one show (own_in s v) (own_in s w) o.0 e o.1 ∙ ap (λ (l : List (Opening × X)). shown_in show (own_in s v) ++ l) (sym here)))
-      (λ (n : t ≢ s). ap (shown_in show) (others_own s (StripeEntered e) v w a t n) ∙ (sym (append-nil (shown_in show (own_in t v))) ∙ ap (λ (l : List (Opening × X)). shown_in show (own_in t v) ++ l) (sym (there t n))))
+      (λ (n : t ≢ s). ap (shown_in show) (others_own s (StripeEntered s e) v w a t n) ∙ (sym (append-nil (shown_in show (own_in t v))) ∙ ap (λ (l : List (Opening × X)). shown_in show (own_in t v) ++ l) (sym (there t n))))
       (same_or t s)
 
   -- one that shows nothing
@@ -67,8 +67,8 @@ module _ {X : Type 0} (show : Entry → List (Opening × X)) where
 -- a cell that is spent gets no entry
 spent_own_in : (s : ℕ) (v w : MgrView) → SpentAt s v w → (t : ℕ) → own_in t w ≡ own_in t v
 spent_own_in s v w a t = ⊎_elim
-    (λ (i : t ≡ s). subst (λ (k : ℕ). own_in k w ≡ own_in k v) (sym i) (ap own_by (stripe_after s StripeSpent v w a) ∙ ((λ i. entries_in (a.stripe.moved.unmoved.classes i) (a.stripe.moved.unmoved.seen i)) ∙ sym (ap own_by (stripe_before s StripeSpent v w a)))))
-    (λ (n : t ≢ s). others_own s StripeSpent v w a t n)
+    (λ (i : t ≡ s). subst (λ (k : ℕ). own_in k w ≡ own_in k v) (sym i) (ap own_by (stripe_after s (StripeSpent s) v w a) ∙ ((λ i. entries_in (a.stripe.moved.unmoved.classes i) (a.stripe.moved.unmoved.seen i)) ∙ sym (ap own_by (stripe_before s (StripeSpent s) v w a)))))
+    (λ (n : t ≢ s). others_own s (StripeSpent s) v w a t n)
     (same_or t s)
 
 pub shows_spent : {X : Type 0} (show : Entry → List (Opening × X)) (s : ℕ) (v w : MgrView) → SpentAt s v w → Shows show v [] w
@@ -104,13 +104,13 @@ shown_none : {X : Type 0} (show : Entry → List X) → ((e : Entry) → IsOfRun
 shown_none show none [] a = refl
 shown_none {X} show none (e ∷ es) a = ap (λ (l : List X). l ++ shown_in show es) (none e.1 a.0) ∙ shown_none show none es a.1
 
-shows_run : {X : Type 0} (show : Entry → List (Opening × X)) → ((e : Entry) → IsOfRun e → show e ≡ []) → (v : MgrView) (r : AfterRun) (w : MgrView) → HasRun v r w → Shows show v [] w
+shows_run : {X : Type 0} (show : Entry → List (Opening × X)) → ((e : Entry) → IsOfRun e → show e ≡ []) → (v : MgrView) (r : AfterRun) (w : MgrView) → RunMade v r w → Shows show v [] w
 shows_run {X} show none v r w k t = let o = run_own v.stripes w.stripes k.stripes t in
     ap (shown_in show) o.1 ∙ (shown-append show (own_in t v) o.0 ∙ ap (λ (l : List (Opening × X)). shown_in show (own_in t v) ++ l) (shown_none show none o.0 o.2))
 
 -- a run dispatches nothing and reports nothing
-pub run_fires_none : (v : MgrView) (r : AfterRun) (w : MgrView) → HasRun v r w → Shows fired_by v [] w
+pub run_fires_none : (v : MgrView) (r : AfterRun) (w : MgrView) → RunMade v r w → Shows fired_by v [] w
 run_fires_none v r w k = shows_run fired_by fires_none v r w k
 
-pub run_reports_none : (v : MgrView) (r : AfterRun) (w : MgrView) → HasRun v r w → Shows reported_by v [] w
+pub run_reports_none : (v : MgrView) (r : AfterRun) (w : MgrView) → RunMade v r w → Shows reported_by v [] w
 run_reports_none v r w k = shows_run reported_by reports_none v r w k

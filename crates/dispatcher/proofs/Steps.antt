@@ -22,8 +22,8 @@ use Rattle.event_mgr.proofs.Weights.{entered_weighs, spent_weighs}
 use Rattle.dispatcher.specs.declared.runner.AfterRun.{AfterRun}
 use Rattle.dispatcher.specs.Entries.{named_by, dispatched_by}
 use Rattle.dispatcher.specs.Books.{Book, IsBalanced, IsAccounted}
-use Rattle.dispatcher.specs.Dealing.{HasDealt, HasDealtAny}
-use Rattle.dispatcher.specs.Runs.{HasRun, events_of, pair_of}
+use Rattle.dispatcher.specs.Enqueue.{IsPutOrKept, IsPutOrKeptAny}
+use Rattle.dispatcher.specs.Runs.{RunMade, events_of, pair_of}
 use Rattle.dispatcher.proofs.Grown.{grown_same}
 use Rattle.dispatcher.proofs.Within.{moved_grown, full_here}
 use Rattle.dispatcher.proofs.Weighs.{run_dispatches_none, put_weighs, taken_weighs}
@@ -110,7 +110,7 @@ module _ (capacity : ℕ) where
   }
 
   -- a run gave the events that it named
-  pub run_step : (v w : MgrView) (q : View Move) (hand : List EventName) (r : AfterRun) → HasRun v r w → IsAccounted capacity (book v q hand [] []) (book w q hand (events_of (pair_of r)) [])
+  pub run_step : (v w : MgrView) (q : View Move) (hand : List EventName) (r : AfterRun) → RunMade v r w → IsAccounted capacity (book v q hand [] []) (book w q hand (events_of (pair_of r)) [])
   run_step v w q hand r k = record {
     balanced = λ h. let i = k.named h in let j = run_dispatches_none h v r w k in omega arith;
     takes = λ h. let j = run_dispatches_none h v r w k in omega arith;
@@ -119,32 +119,32 @@ module _ (capacity : ℕ) where
   }
 
   -- an event was dealt with
-  pub deal_step : (m : MgrView) (v w : View Move) (xs ys : List EventName) (e : EventName) (loose : List EventName) → HasDealt capacity e v xs w ys → IsAccounted capacity (book m v xs (e ∷ loose) []) (book m w ys loose [])
+  pub deal_step : (m : MgrView) (v w : View Move) (xs ys : List EventName) (e : EventName) (loose : List EventName) → IsPutOrKept capacity e v xs w ys → IsAccounted capacity (book m v xs (e ∷ loose) []) (book m w ys loose [])
   deal_step m v w xs ys e loose d = ⊎_elim
       (λ (t : HasMoved capacity (Put e) v w × (ys ≡ xs)). subst (λ (l : List EventName). IsAccounted capacity (book m v xs (e ∷ loose) []) (book m w l loose [])) (sym t.1) (put_step m v w xs e loose [] t.0))
       (λ (t : WasFull capacity v w × (ys ≡ xs ++ e ∷ [])). subst (λ (l : List EventName). IsAccounted capacity (book m v xs (e ∷ loose) []) (book m w l loose [])) (sym t.1) (keep_step m v w xs e loose [] t.0))
       d
 
-  pub deal_any_step : (m : MgrView) (v w : View Move) (xs ys : List EventName) (o : Option EventName) (loose : List EventName) → HasDealtAny capacity o v xs w ys → IsAccounted capacity (book m v xs (option_to_list o ++ loose) []) (book m w ys loose [])
+  pub deal_any_step : (m : MgrView) (v w : View Move) (xs ys : List EventName) (o : Option EventName) (loose : List EventName) → IsPutOrKeptAny capacity o v xs w ys → IsAccounted capacity (book m v xs (option_to_list o ++ loose) []) (book m w ys loose [])
   deal_any_step m v w xs ys None loose d = subst (λ (z : View Move). IsAccounted capacity (book m v xs loose []) (book m z ys loose [])) (sym d.0) (subst (λ (l : List EventName). IsAccounted capacity (book m v xs loose []) (book m v l loose [])) (sym d.1) (accounted_same capacity (book m v xs loose [])))
   deal_any_step m v w xs ys (Some e) loose d = deal_step m v w xs ys e loose d
 
-  pub deal_one_step : (m : MgrView) (v w : View Move) (xs ys : List EventName) (o : Option EventName) → HasDealtAny capacity o v xs w ys → IsAccounted capacity (book m v xs (option_to_list o) []) (book m w ys [] [])
+  pub deal_one_step : (m : MgrView) (v w : View Move) (xs ys : List EventName) (o : Option EventName) → IsPutOrKeptAny capacity o v xs w ys → IsAccounted capacity (book m v xs (option_to_list o) []) (book m w ys [] [])
   deal_one_step m v w xs ys o d = subst (λ (l : List EventName). IsAccounted capacity (book m v xs l []) (book m w ys [] [])) (append-nil (option_to_list o)) (deal_any_step m v w xs ys o [] d)
 
   -- a run, and what became of its events
-  pub run_deal_step : (v w : MgrView) (q r s : View Move) (xs ys zs : List EventName) (result : AfterRun) → HasRun v result w → HasDealtAny capacity (pair_of result).first q xs r ys → HasDealtAny capacity (pair_of result).second r ys s zs
+  pub run_deal_step : (v w : MgrView) (q r s : View Move) (xs ys zs : List EventName) (result : AfterRun) → RunMade v result w → IsPutOrKeptAny capacity (pair_of result).first q xs r ys → IsPutOrKeptAny capacity (pair_of result).second r ys s zs
       → IsAccounted capacity (book v q xs [] []) (book w s zs [] [])
   run_deal_step v w q r s xs ys zs result k one two = let p = pair_of result in let b : Book = book v q xs [] [] in let c : Book = book w q xs (events_of p) [] in let d : Book = book w r ys (option_to_list p.second) [] in let e : Book = book w s zs [] [] in
       accounted_then capacity b c e (run_step v w q xs result k) (accounted_then capacity c d e (deal_any_step w q r xs ys p.first (option_to_list p.second) one) (deal_one_step w r s ys zs p.second two))
 
   -- a dispatch, and what became of the event that it named
-  pub ran_deal_step : (v w : MgrView) (q r : View Move) (xs ys : List EventName) (s : ℕ) (e : EventName) (rs : List FiredKey) (n : Option EventName) → EnteredAt s (Entries.Dispatch e (Dispatches.Ran rs n)) v w → HasDealtAny capacity n q xs r ys
+  pub ran_deal_step : (v w : MgrView) (q r : View Move) (xs ys : List EventName) (s : ℕ) (e : EventName) (rs : List FiredKey) (n : Option EventName) → EnteredAt s (Entries.Dispatch e (Dispatches.Ran rs n)) v w → IsPutOrKeptAny capacity n q xs r ys
       → IsAccounted capacity (book v q xs [] (e ∷ [])) (book w r ys [] [])
   ran_deal_step v w q r xs ys s e rs n a d = accounted_then capacity (book v q xs [] (e ∷ [])) (book w q xs (option_to_list n) []) (book w r ys [] []) (ran_step v w q xs s e rs n a) (deal_one_step w q r xs ys n d)
 
   -- a report, and what became of the event that it named
-  pub noted_deal_step : (v w : MgrView) (q r : View Move) (xs ys : List EventName) (s : ℕ) (o : Opening) (ds : Dirs) (n : Option EventName) → EnteredAt s (Entries.Report o ds (Reports.Noted n)) v w → HasDealtAny capacity n q xs r ys
+  pub noted_deal_step : (v w : MgrView) (q r : View Move) (xs ys : List EventName) (s : ℕ) (o : Opening) (ds : Dirs) (n : Option EventName) → EnteredAt s (Entries.Report o ds (Reports.Noted n)) v w → IsPutOrKeptAny capacity n q xs r ys
       → IsAccounted capacity (book v q xs [] []) (book w r ys [] [])
   noted_deal_step v w q r xs ys s o ds n a d = accounted_then capacity (book v q xs [] []) (book w q xs (option_to_list n) []) (book w r ys [] []) (noted_step v w q xs s o ds n a) (deal_one_step w q r xs ys n d)
 

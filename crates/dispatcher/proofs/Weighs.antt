@@ -15,7 +15,7 @@ use Rattle.ready_queue.specs.Calls.{HasMoved}
 use Rattle.event_mgr.specs.Manager.{MgrView}
 use Rattle.dispatcher.specs.Entries.{IsOfRun, dispatched_by}
 use Rattle.dispatcher.specs.Stripes.{Each, AreOfRun, weigh_shown}
-use Rattle.dispatcher.specs.Runs.{RunsAt, HasRun}
+use Rattle.dispatcher.specs.Runs.{RunsAt, RunMade}
 use Rattle.dispatcher.specs.declared.runner.AfterRun.{AfterRun}
 
 none_by : (h : EventName → ℕ) (e : Entry) → IsOfRun e → weigh h (dispatched_by e) ≡ 0
@@ -44,7 +44,7 @@ runs_weigh h (v ∷ vs) (w ∷ ws) a = let f : ℕ × Entry → ℕ = λ e. weig
     let t = weigh-append f (own_entries v) a.0.made in let n = none_dispatched h a.0.made a.0.calls in let r = runs_weigh h vs ws a.1 in omega arith
 
 -- a run dispatches no event
-pub run_dispatches_none : (h : EventName → ℕ) (v : MgrView) (r : AfterRun) (w : MgrView) → HasRun v r w → weigh_shown dispatched_by h w ≡ weigh_shown dispatched_by h v
+pub run_dispatches_none : (h : EventName → ℕ) (v : MgrView) (r : AfterRun) (w : MgrView) → RunMade v r w → weigh_shown dispatched_by h w ≡ weigh_shown dispatched_by h v
 run_dispatches_none h v r w k = runs_weigh h v.stripes w.stripes k.stripes
 
 module _ (h : EventName → ℕ) (capacity : ℕ) (v w : View Move) where

@@ -18,7 +18,7 @@ use Rattle.dispatcher.specs.declared.runner.AfterRun.{AfterRun}
 use Rattle.dispatcher.specs.Entries.{Firing, firings, fired_by, reported_by}
 use Rattle.dispatcher.specs.Meanings.{RunnerMeaning}
 use Rattle.dispatcher.specs.Told.{Gains}
-use Rattle.dispatcher.specs.Runs.{HasRun}
+use Rattle.dispatcher.specs.Runs.{RunMade}
 use Rattle.dispatcher.specs.Work.{HasWorked}
 use Rattle.dispatcher.proofs.Lists.{gains_none, gains_as}
 use Rattle.dispatcher.proofs.Grown.{all_grown_same, entered_grown, spent_grown, run_grown}
@@ -104,7 +104,7 @@ module _ {X P : Type 0} (meaning : RunnerMeaning X P) (same : (x : X) → meanin
 
 module _ {X P : Type 0} (meaning : RunnerMeaning X P) where
   -- the first of what fired was run
-  pub run_step : (v w : MgrView) (x y : X) (f : Firing) (fs : List Firing) (r : AfterRun) → HasRun v r w → Gains (meaning.runs x) (meaning.runs y) (f.1.key ∷ []) → meaning.shuts y ≡ meaning.shuts x → meaning.keeps x y → RunKeys meaning 1 (work v (f ∷ fs) []) x (work w fs []) y
+  pub run_step : (v w : MgrView) (x y : X) (f : Firing) (fs : List Firing) (r : AfterRun) → RunMade v r w → Gains (meaning.runs x) (meaning.runs y) (f.1.key ∷ []) → meaning.shuts y ≡ meaning.shuts x → meaning.keeps x y → RunKeys meaning 1 (work v (f ∷ fs) []) x (work w fs []) y
   run_step v w x y f fs r k gains stay kept = (
     record {
       fired = [];

@@ -1,4 +1,5 @@
--- The account of events: where each event came from, and where it went. It is kept in weights: with 1 for one event and 0 for the others a weight counts, so an equation of weights that holds for every weight is one of events counted with repeats, in whatever order they come.
+-- To be believed: the account of events, where each came from and where it went: what was got and what was held before is what was put, what was dispatched and what is held after.
+-- It is kept in weights. With 1 for one event and 0 for the others a weight counts, so an equation of weights that holds for every weight is one of events counted with repeats, in whatever order they come.
 use Rattle.std.specs.Prelude.{◌≡◌, ℕ, ◌+◌, ◌≤◌, ◌⊎◌, List, [], ◌++◌, length}
 use mathlib.Core.List.{IsPrefix}
 use Rattle.reg_keys.specs.declared.event.EventName.{EventName}
@@ -23,35 +24,35 @@ pub record Book : Type 0 where
 
 -- the events got: named by its own entries, or taken from the queue
 abbrev pub got : (EventName → ℕ) → Book → ℕ
-got h b = weigh_shown named_by h b.mgr + weigh_taken h (own_entries b.queue)
+got weight book = weigh_shown named_by weight book.mgr + weigh_taken weight (own_entries book.queue)
 
 -- the events that were dispatched
 abbrev pub dispatched : (EventName → ℕ) → Book → ℕ
-dispatched h b = weigh_shown dispatched_by h b.mgr
+dispatched weight book = weigh_shown dispatched_by weight book.mgr
 
 -- the events that were taken from the queue
 abbrev pub taken : (EventName → ℕ) → Book → ℕ
-taken h b = weigh_taken h (own_entries b.queue)
+taken weight book = weigh_taken weight (own_entries book.queue)
 
 -- the events that are held: in the hand, or in between
 abbrev pub held : (EventName → ℕ) → Book → ℕ
-held h b = weigh h b.hand + weigh h b.loose + weigh h b.next
+held weight book = weigh weight book.hand + weigh weight book.loose + weigh weight book.next
 
 -- where events are: put into the queue, dispatched, or held
 abbrev pub placed : (EventName → ℕ) → Book → ℕ
-placed h b = weigh_put h (own_entries b.queue) + dispatched h b + held h b
+placed weight book = weigh_put weight (own_entries book.queue) + dispatched weight book + held weight book
 
--- From one book to another each event that was got, and each that was held before, was put, dispatched or is held, as often as it was got
+-- From one book to another each event that was got, and each that was held before, was put, dispatched or is held, as often as it was got: what was got in between is what came to be placed
 abbrev pub IsBalanced : Book → Book → Type 0
-IsBalanced b c = (h : EventName → ℕ) → got h c + placed h b ≡ placed h c + got h b
+IsBalanced before after = (weight : EventName → ℕ) → got weight before + placed weight after ≡ placed weight before + got weight after
 
 -- each event that was taken, and each that was to be dispatched, was dispatched or is to be
 abbrev pub DispatchesTaken : Book → Book → Type 0
-DispatchesTaken b c = (h : EventName → ℕ) → (taken h c + weigh h b.next) + dispatched h b ≤ (dispatched h c + weigh h c.next) + taken h b
+DispatchesTaken before after = (weight : EventName → ℕ) → (taken weight after + weigh weight before.next) + dispatched weight before ≤ (dispatched weight after + weigh weight after.next) + taken weight before
 
 -- no other event was dispatched
 abbrev pub DispatchesNoOther : Book → Book → Type 0
-DispatchesNoOther b c = (h : EventName → ℕ) → (taken h c + weigh h b.next) + dispatched h b ≡ (dispatched h c + weigh h c.next) + taken h b
+DispatchesNoOther before after = (weight : EventName → ℕ) → (taken weight after + weigh weight before.next) + dispatched weight before ≡ (dispatched weight after + weigh weight after.next) + taken weight before
 
 -- The queue was at some step between the two views as `P` says. Its history at that step begins with what the pass had seen before, and has no moves of the pass's own but those that it has after
 pub record WasWithin (capacity : ℕ) (P : List EventName → Type 0) (v w : View Move) : Type 0 where
@@ -74,13 +75,13 @@ abbrev pub IsLeftOf : List EventName → List EventName → Type 0
 IsLeftOf before after = (front : List EventName) × (before ≡ front ++ after)
 
 -- every event that was got or held was put, but those taken from the queue, and none came into the hand
-pub record PutsAll (b c : Book) : Type 0 where
-  pub hand : IsLeftOf b.hand c.hand
-  pub others : DispatchesNoOther b c
+pub record PutsAll (before after : Book) : Type 0 where
+  pub hand : IsLeftOf before.hand after.hand
+  pub others : DispatchesNoOther before after
 
 -- From one book to another nothing is lost and nothing is there twice. What was taken from the queue was dispatched. Every other event was put, but where the queue was full at a step in between
-pub record IsAccounted (capacity : ℕ) (b c : Book) : Type 0 where
-  pub balanced : IsBalanced b c
-  pub takes : DispatchesTaken b c
-  pub full : WasFullWithin capacity b.queue c.queue ⊎ PutsAll b c
-  pub queue : HasGrown b.queue c.queue
+pub record IsAccounted (capacity : ℕ) (before after : Book) : Type 0 where
+  pub balanced : IsBalanced before after
+  pub takes : DispatchesTaken before after
+  pub full : WasFullWithin capacity before.queue after.queue ⊎ PutsAll before after
+  pub queue : HasGrown before.queue after.queue

@@ -1,4 +1,4 @@
--- What an entry of a stripe's history is to a dispatcher.
+-- To be believed: what an entry of a stripe's history is to a dispatcher.
 use Rattle.std.specs.Prelude.{List, [], ◌∷◌, map}
 use Rattle.std.specs.Option.{option_to_list}
 use Rattle.reg_keys.specs.declared.opening.Opening.{Opening}

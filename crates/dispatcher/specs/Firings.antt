@@ -1,4 +1,4 @@
--- What fired and is to be run: the jobs among it, and the keys.
+-- To be believed: what fired and is to be run: the jobs among it, and the keys.
 use Rattle.std.specs.Prelude.{ℕ, List, [], ◌∷◌, ◌++◌, map}
 use Rattle.reg_keys.specs.declared.opening.Opening.{Opening}
 use Rattle.reg_keys.specs.declared.event.EventName.{EventName}

@@ -6,5 +6,5 @@ pub mod Firings
 pub mod Work
 pub mod Meanings
 pub mod Runs
-pub mod Dealing
+pub mod Enqueue
 pub mod Turns

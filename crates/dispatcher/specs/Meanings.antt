@@ -1,4 +1,4 @@
--- What contracts know of a runner.
+-- To be believed: what contracts know of a runner, and what it owes beside its calls.
 use Rattle.std.specs.Prelude.{◌≡◌, ℕ, List, Bool, Option}
 use Rattle.reg_keys.specs.declared.opening.Opening.{Opening}
 use Rattle.reg_keys.specs.declared.event.EventName.{EventName}

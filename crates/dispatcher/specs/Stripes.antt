@@ -1,4 +1,4 @@
--- What is said of the 32 stripes together. There is one history for each stripe and none for all, so what has an order has it stripe by stripe, and everything else is said in sums.
+-- To be believed: what is said of the 32 stripes together. There is one history for each stripe and none for all, so what has an order has it stripe by stripe, and everything else is said in sums.
 use Rattle.std.specs.Prelude.{◌≡◌, ℕ, ◌==◌, List, [], ◌∷◌, ◌++◌, filter, true}
 use mathlib.Core.List.{IsPrefix}
 use Rattle.reg_keys.specs.declared.opening.Opening.{Opening}

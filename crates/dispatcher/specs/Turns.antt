@@ -1,5 +1,5 @@
--- What a turn says, and what its parts say.
-use Rattle.std.specs.Prelude.{◌≡◌, ℕ, ◌+◌, ◌^◌, ◌⊎◌, ◌==◌, ◌&&◌, List, [], ◌∷◌, ◌++◌, length, slice_get, Bool, true, false, Option, Some, None, Result, Err}
+-- To be believed: what a turn says, and what its parts say.
+use Rattle.std.specs.Prelude.{◌≡◌, ℕ, ◌+◌, ◌^◌, ◌⊎◌, ◌==◌, ◌&&◌, List, [], ◌∷◌, ◌++◌, length, slice_get, Bool, true, Option, Some, None, Result, Err}
 use Rattle.reg_keys.specs.declared.event.EventName.{EventName}
 use Rattle.reg_keys.specs.declared.entry.Entry.{Entry}
 use Rattle.turn_cell.specs.declared.view.View.{View}
@@ -11,13 +11,16 @@ use Rattle.event_mgr.specs.Manager.{MgrView, IsOfMgr, mgr_view, own_in}
 use Rattle.outside.specs.Counts.{Rises}
 use Rattle.poller.specs.declared.poller.PollOut.{PollOut}
 use Rattle.poller.specs.declared.poller.PollOut.TheVariants.{Polled, Failed}
-use Rattle.poller.specs.Polls.{Report}
+use Rattle.poller.specs.Faults.{PollFaults}
+use Rattle.poller.specs.Polls.{Report, polled_after}
 use Rattle.dispatcher.specs.declared.pass.DispPass.{DispPass}
-use Rattle.dispatcher.specs.declared.turned.Turned.{Turned}
-use Rattle.dispatcher.specs.declared.turned.Turned.TheVariants as Turns
-use Rattle.dispatcher.specs.declared.turned.Halt.{Halt}
-use Rattle.dispatcher.specs.declared.turned.Halt.TheVariants as H
-use Rattle.dispatcher.specs.declared.turned.Count.{Count}
+use Rattle.dispatcher.specs.declared.outcome.Turned.{Turned}
+use Rattle.dispatcher.specs.declared.outcome.Turned.TheVariants as Turns
+use Rattle.dispatcher.specs.declared.outcome.Halt.{Halt}
+use Rattle.dispatcher.specs.declared.outcome.Halt.TheVariants as H
+use Rattle.dispatcher.specs.declared.outcome.ReportOut.{ReportOut}
+use Rattle.dispatcher.specs.declared.outcome.ReportOut.TheVariants as R
+use Rattle.dispatcher.specs.declared.outcome.TurnTally.{TurnTally}
 use Rattle.dispatcher.specs.Entries.{Firing, IsSpentEntry}
 use Rattle.dispatcher.specs.Stripes.{HasGrown}
 use Rattle.poller.specs.Meanings.{PollerMeaning}
@@ -92,13 +95,13 @@ module _ {X P : Type 0} (meaning : RunnerMeaning X P) where
     pub cause : HasHaltCause (mgr_view p.mgr) halt (mgr_view q.mgr)
 
   -- a pair was reported, and what that named was dealt with; or it was refused as spent, with an entry or without one
-  abbrev pub HasReportedOne : {T : Type 0} → ℕ → Report → DispPass T → X → Bool → DispPass T → Type 0
-  HasReportedOne capacity pair p x true q = IsAccounted capacity (book_of p) (book_of q) × HasRunKeys 0 (work_with [] (pair ∷ []) p) x (work_with [] [] q) x
-  HasReportedOne capacity pair p x false q = IsAccounted capacity (book_of p) (book_of q) × HasMetSpent (mgr_view p.mgr) (mgr_view q.mgr)
+  abbrev pub HasReportedOne : {T : Type 0} → ℕ → Report → DispPass T → X → ReportOut → DispPass T → Type 0
+  HasReportedOne capacity pair p x R.Made q = IsAccounted capacity (book_of p) (book_of q) × HasRunKeys 0 (work_with [] (pair ∷ []) p) x (work_with [] [] q) x
+  HasReportedOne capacity pair p x R.Spent q = IsAccounted capacity (book_of p) (book_of q) × HasMetSpent (mgr_view p.mgr) (mgr_view q.mgr)
       × (HasRunKeys 0 (work_with [] (pair ∷ []) p) x (work_with [] [] q) x ⊎ HasRunKeys 0 (work_with [] (pair ∷ []) p) x (work_with [] (pair ∷ []) q) x)
 
   -- all pairs were reported, so many, and so many keys were run
-  pub record HasReportedAll {T : Type 0} (count : Count) (p : DispPass T) (x : X) (pairs : List Report) (q : DispPass T) (y : X) (left : List Report) : Type 0 where
+  pub record HasReportedAll {T : Type 0} (count : TurnTally) (p : DispPass T) (x : X) (pairs : List Report) (q : DispPass T) (y : X) (left : List Report) : Type 0 where
     pub work : HasWorked meaning [] (work_with [] pairs p) x (work_with [] [] q) y
     pub ran : length work.ran ≡ count.ran
     pub handled : length pairs ≡ count.handled
@@ -136,8 +139,8 @@ module _ {T X P : Type 0} (meaning : RunnerMeaning X P) where
     pub ran : HasRunKeys meaning n (work_with [] [] p) x (work_with [] [] q) y
 
 -- so many events were taken, unless the queue was empty at a step
-abbrev pub HasTaken : {T : Type 0} → ℕ → ℕ → DispPass T → DispPass T → Type 0
-HasTaken capacity max p q = (taken (λ _. 1) (book_of q) ≡ taken (λ _. 1) (book_of p) + max) ⊎ WasEmptyWithin capacity (view_of p.queue) (view_of q.queue)
+abbrev pub EventsTaken : {T : Type 0} → ℕ → ℕ → DispPass T → DispPass T → Type 0
+EventsTaken capacity max p q = (taken (λ _. 1) (book_of q) ≡ taken (λ _. 1) (book_of p) + max) ⊎ WasEmptyWithin capacity (view_of p.queue) (view_of q.queue)
 
 -- a poll may wait: no event was taken from one book to the other, and none is in the hand
 abbrev pub is_idle : Book → Book → Bool
@@ -151,6 +154,17 @@ pub record HasPolled {X P : Type 0} (meaning : RunnerMeaning X P) (told : Poller
   pub after : P
   pub poll : told.polls (meaning.poller_of runner) (is_idle b at) result pairs after
 
+-- One poll of the poller that a runner lent: whether it might wait, what it answered and gave, and that nothing else of the runner has changed
+pub record HasPolledOnce {X P : Type 0} (meaning : RunnerMeaning X P) (told : PollerMeaning P) (idle : Bool) (x : X) (result : PollOut) (pairs : List Report) (y : X) : Type 0 where
+  pub lent : P
+  pub after : P
+  pub was_lent : lent ≡ meaning.poller_of x
+  pub poll : told.polls lent idle result pairs after
+  pub none : result ≡ Failed → pairs ≡ []
+  pub faulted : PollFaults result (told.faults lent) (told.faults after)
+  pub gave : told.polled after ≡ polled_after result (told.polled lent) pairs
+  pub others : y ≡ meaning.with_poller x after
+
 -- the code with which a turn stopped, if it did
 abbrev pub stop_of : Turned → Option ℕ
 stop_of (Turns.Stop code) = Some code
@@ -162,7 +176,7 @@ module _ {X P T : Type 0} (meaning : RunnerMeaning X P) (told : PollerMeaning P)
   pub record IsDone (capacity max : ℕ) (p : DispPass T) (x : X) (reports ran : ℕ) (left : List Report) (q : DispPass T) (y : X) : Type 0 where
     pub events : IsAccounted capacity (book_of p) (book_of q)
     pub emptied : WasFullWithin capacity (view_of p.queue) (view_of q.queue) ⊎ (q.hand ≡ [])
-    pub takes : HasTaken capacity max p q
+    pub takes : EventsTaken capacity max p q
     pub pairs : List Report
     pub polled : HasPolled meaning told capacity (book_of p) Polled pairs
     pub since : IsAccounted capacity polled.at (book_of q)
@@ -175,7 +189,7 @@ module _ {X P T : Type 0} (meaning : RunnerMeaning X P) (told : PollerMeaning P)
   -- the poll failed, and by then each key that fired was run
   pub record HasPollFault (capacity max : ℕ) (p : DispPass T) (x : X) (left : List Report) (q : DispPass T) (y : X) : Type 0 where
     pub events : IsAccounted capacity (book_of p) (book_of q)
-    pub takes : HasTaken capacity max p q
+    pub takes : EventsTaken capacity max p q
     pub polled : HasPolled meaning told capacity (book_of p) Failed []
     pub since : IsAccounted capacity polled.at (book_of q)
     pub gave : told.polled (meaning.poller_of y) ≡ told.polled (meaning.poller_of x)

@@ -1,4 +1,4 @@
--- What was run and what was reported, in order.
+-- To be believed: what was run and what was reported, in order.
 use Rattle.std.specs.Prelude.{◌≡◌, List, ◌++◌}
 use Rattle.reg_keys.specs.declared.registration.Key.{Key}
 use Rattle.event_mgr.specs.Manager.{MgrView}
@@ -15,7 +15,8 @@ pub record Work : Type 0 where
   pub due : List Firing
   pub pairs : List Report
 
--- From one point of a turn to another: what fired is what the entries that the pass gained show, and it was run in order, each once, or is still to be run; each pair was reported once, in order, by an entry that the pass gained, or is still to be reported. A runner that keeps a list of the keys that it ran has these keys in it, and one that keeps those that it shut has the keys `shut`
+-- From one point of a turn to another: what was due and what fired in between is what was run and what is still due, in this order; and the pairs that were to be reported are those that were reported and those that still are to be.
+-- What fired and what was reported is what the entries that the pass gained show. A runner that tells the keys that it ran has told these, and one that tells those that it was given to shut has told the keys `shut`
 pub record HasWorked {X P : Type 0} (meaning : RunnerMeaning X P) (shut : List Key) (a : Work) (x : X) (b : Work) (y : X) : Type 0 where
   pub fired : List Firing
   pub ran : List Firing

@@ -1,4 +1,4 @@
-// The events that a dispatcher keeps where the queue is full: a small ring, whose room is taken once.
+//! The events that a dispatcher keeps where the queue is full: a small ring, whose room is taken once.
 ghost use Rattle.std.specs.Prelude.{◌≡◌, ◌<◌, ◌≤◌, [], ◌∷◌, ◌++◌, length, IfOk, MatchOption};
 
 use reg_keys::Event;

@@ -1,8 +1,9 @@
-// A runner for whoever needs no more than the body of a run: it keeps nothing, never stops, and tells no lists.
+//! A runner for whoever needs no more than the body of a run: it keeps nothing, never stops, and tells no
+//! lists.
 ghost use Rattle.std.specs.Prelude.{◌≡◌, ◌++◌, [], ◌∷◌, None, IfNone, refl};
 ghost use Rattle.reg_keys.specs.declared.opening.Opening.{Opening};
 ghost use Rattle.event_mgr.specs.Manager.{IsOfMgr, mgr_view};
-ghost use Rattle.dispatcher.specs.Runs.{HasRun, HasMadeCalls, GivesNoEvents, code_of, events_of};
+ghost use Rattle.dispatcher.specs.Runs.{RunMade, HasMadeCalls, GivesNoEvents, code_of, events_of};
 
 use crate::runner::{AfterRun, EventPair, Runner};
 use event_mgr::{EventManager, MgrPass};
@@ -65,7 +66,7 @@ impl<T: Load, P: Poller, F: Run<T>> Runner<T> for PlainRunner<P, F> {
         requires own { IsOfMgr mgr.now pass.old }
         ensures own { IsOfMgr mgr.now pass.new }
         ensures fits { (o : Opening) (rest : Jobs) → Unit {0} → Unit {0} }
-        ensures made { HasRun (mgr_view pass.old) result (mgr_view pass.new) }
+        ensures made { RunMade (mgr_view pass.old) result (mgr_view pass.new) }
         ensures flag { IfNone fired.old.job (GivesNoEvents result) }
         ensures stop { never ≡ code_of result }
         ensures runs { Gains untold untold (fired.old.key ∷ []) }

@@ -1,4 +1,4 @@
-// What runs the jobs that fired.
+//! What runs the jobs that fired.
 ghost use Rattle.std.specs.Prelude.{◌≡◌, [], ◌∷◌, ◌++◌, None, IfNone};
 ghost use Rattle.std.specs.Borrow.{sem, Lends};
 ghost use Rattle.reg_keys.specs.declared.opening.Opening.{Opening};
@@ -8,7 +8,7 @@ ghost use Rattle.event_mgr.specs.Manager.{MgrView, IsOfMgr, mgr_view};
 ghost use Rattle.dispatcher.specs.Told.{Gains};
 ghost use Rattle.dispatcher.specs.Firings.{Jobs, job_in, job_at};
 ghost use Rattle.dispatcher.specs.Meanings.{RunnerMeaning, RunnerLaws};
-ghost use Rattle.dispatcher.specs.Runs.{HasRun, GivesNoEvents, code_of, LeavesPolls};
+ghost use Rattle.dispatcher.specs.Runs.{RunMade, GivesNoEvents, code_of, LeavesPolls};
 
 use event_mgr::{EventManager, MgrPass};
 use poller::Poller;
@@ -39,9 +39,13 @@ pub trait Runner<T: Load> {
     // What these contracts speak of.
     ghost meaning: { RunnerMeaning Self Self.Poller };
 
-    /// Runs a registration that fired. A flag has no job, and is told by the manager to whoever asks for it: nothing is to be done for it.
+    /// Runs a registration that fired: its job, with the direction and the marks with which it fired. To wait
+    /// for the next report, a run registers again with the mark of that direction. A flag has no job, and is
+    /// told by the manager to whoever asks for it: nothing is to be done for it.
     ///
-    /// It may make any calls on the manager but reports and dispatches, and gives the events that they named. It takes the job out of what fired: the toolchain proves no impl of a method that takes by value what is made of `T`, beside a manager for `T`.
+    /// It may make any calls on the manager but reports and dispatches, and gives the events that they named
+    /// (`calls_of_runs`). It takes the job out of what fired: the toolchain proves no impl of a method that
+    /// takes by value what is made of `T`, beside a manager for `T`.
     fn run<R: Wait>(
         &mut self,
         rt: &R,
@@ -54,7 +58,7 @@ pub trait Runner<T: Load> {
         requires fits { (o : Opening) × (rest : Jobs) × meaning.fits self.old (mgr_view pass.old) (job_in T.tag o fired.old ++ rest) }
         ensures own { IsOfMgr mgr.now pass.new }
         ensures fits { (o : Opening) (rest : Jobs) → meaning.fits self.old (mgr_view pass.old) (job_in T.tag o fired.old ++ rest) → meaning.fits self.new (mgr_view pass.new) rest }
-        ensures made { HasRun (mgr_view pass.old) result (mgr_view pass.new) }
+        ensures made { RunMade (mgr_view pass.old) result (mgr_view pass.new) }
         ensures flag { IfNone fired.old.job (GivesNoEvents result) }
         ensures stop { meaning.stop self.new ≡ code_of result }
         ensures runs { Gains (meaning.runs self.old) (meaning.runs self.new) (fired.old.key ∷ []) }

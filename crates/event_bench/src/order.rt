@@ -1,4 +1,6 @@
 // What the words of the command line ask for.
+ghost use Rattle.std.specs.Prelude.{◌<◌};
+
 use std::string::String;
 
 /// The most threads. Each has a stripe of its own.

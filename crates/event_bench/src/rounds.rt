@@ -109,12 +109,7 @@ fn register_and_dispatch<T: Job, R: Wait>(
 }
 
 /// The way of an event: a registration that waits, the report that names the event, and its dispatch.
-fn go_round<T: Job, R: Wait>(
-    rt: &R,
-    mgr: &EventManager<T>,
-    row: &mut Row<T>,
-    round: u64,
-) -> bool
+fn go_round<T: Job, R: Wait>(rt: &R, mgr: &EventManager<T>, row: &mut Row<T>, round: u64) -> bool
     requires { IsOfMgr mgr.now row.old.pass }
     ensures { IsOfMgr mgr.now row.new.pass }
 {
@@ -138,12 +133,7 @@ fn go_round<T: Job, R: Wait>(
 }
 
 /// Runs one job, and keeps the mark that it was given.
-fn dispatch<T: Job, R: Wait>(
-    rt: &R,
-    mgr: &EventManager<T>,
-    row: &mut Row<T>,
-    event: Event,
-) -> bool
+fn dispatch<T: Job, R: Wait>(rt: &R, mgr: &EventManager<T>, row: &mut Row<T>, event: Event) -> bool
     requires { IsOfMgr mgr.now row.old.pass }
     ensures { IsOfMgr mgr.now row.new.pass }
 {

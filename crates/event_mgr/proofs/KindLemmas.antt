@@ -28,11 +28,14 @@ use Rattle.event_mgr.specs.Kinds.{OpensFor, IsAnswered}
 
 module _ (s : ℕ) where
   open_tells : (fd : ℕ) → fd % 32 ≡ s → fd < 4096 → (r : OpenReply) → NamesItsOwn s (Entries.Open fd (opened r)) → OpensFor fd r
-  open_tells fd of low (OpenAnswer.Opened o) own = let at = own.descriptor in (own.descriptor, record {
-    descriptor = omega arith;
-    number = own.small;
-    stripe = own.stripe ∙ (sym of ∙ ap stripe_of (sym own.descriptor));
-  })
+  open_tells fd of low (OpenAnswer.Opened o) own = let at = own.descriptor in (
+    own.descriptor,
+    record {
+      descriptor = omega arith;
+      number = own.small;
+      stripe = own.stripe ∙ (sym of ∙ ap stripe_of (sym own.descriptor));
+    },
+  )
   open_tells fd of low (OpenAnswer.Taken o) own = own.descriptor
   open_tells fd of low OpenAnswer.Spent own = tt
 

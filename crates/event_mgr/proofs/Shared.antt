@@ -24,8 +24,8 @@ module _ (v w v' w' : MgrView) (l : IsLawful v) (m : IsLawful w) (told : IsMgrSh
       let c = some_at v'.stripes s (omega arith) in
       let d = some_at w'.stripes s (omega arith) in
       subst (λ (q : View Entry × (View Entry × (View Entry × View Entry))). HasShared q.0 q.1.0 q.1.1.0 q.1.1.1)
-          (λ i. (view_by (sym a.1 i), (view_by (sym b.1 i), (view_by (sym c.1 i), view_by (sym d.1 i)))))
-          (told.stripes.each s a.0 b.0 c.0 d.0 a.1 b.1 c.1 d.1)
+      (λ i. (view_by (sym a.1 i), (view_by (sym b.1 i), (view_by (sym c.1 i), view_by (sym d.1 i)))))
+      (told.stripes.each s a.0 b.0 c.0 d.0 a.1 b.1 c.1 d.1)
 
   pub shared_known : (k : MgrCell) → HasShared (known_at k v) (known_at k w) (known_at k v') (known_at k w')
   shared_known (AtStripe s low) = shared_at s low
@@ -49,8 +49,8 @@ split_at v w o l cut s low =
     let b = some_at w.stripes s (omega arith) in
     let c = some_at o.stripes s (omega arith) in
     subst (λ (q : View Entry × (View Entry × View Entry)). IsSplit q.0 q.1.0 q.1.1)
-        (λ i. (view_by (sym a.1 i), (view_by (sym b.1 i), view_by (sym c.1 i))))
-        (cut.stripes.each s a.0 b.0 c.0 a.1 b.1 c.1)
+    (λ i. (view_by (sym a.1 i), (view_by (sym b.1 i), view_by (sym c.1 i))))
+    (cut.stripes.each s a.0 b.0 c.0 a.1 b.1 c.1)
 
 pub split_known : (v w o : MgrView) → IsLawful v → IsMgrSplit v w o → (k : MgrCell) → IsSplit (known_at k v) (known_at k w) (known_at k o)
 split_known v w o l cut (AtStripe s low) = split_at v w o l cut s low

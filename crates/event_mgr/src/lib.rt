@@ -45,8 +45,4 @@ pub use numbers_laws::{a_draw_gives_the_least_number, a_number_is_given_back_onc
 pub use pass::MgrPass;
 
 #[cfg(test)]
-mod numbers_tests;
-#[cfg(test)]
-mod plain_numbers;
-#[cfg(test)]
 mod tests;

@@ -11,9 +11,7 @@ use crate::manager::EventManager;
 use crate::pass::MgrPass;
 use crate::stripes::stripe_of_descriptor;
 use reg_keys::{Dir, Dirs, Event, Opening, legal_names_own_openings};
-use stripe_table::{
-    DispatchReply, Load, Payload, RegisterReply, ReportReply, Stripe, StripeCall,
-};
+use stripe_table::{DispatchReply, Load, Payload, RegisterReply, ReportReply, Stripe, StripeCall};
 use turn_cell::Tried;
 
 impl<T: Load> EventManager<T> {

@@ -1,1 +1,4 @@
-pub mod Recording
+pub mod Accounting
+pub mod Laws
+pub mod Rows
+pub mod Serving

@@ -1,5 +1,5 @@
 -- How an acquire and a release went, from what each of their parts says.
-use Rattle.std.proofs.Common.{◌≡◌, ℕ, ◌⊎◌, inl, inr, List, [], ◌∷◌, ◌++◌, refl, sym, ap, subst, ◌∙◌}
+use Rattle.std.proofs.Common.{◌≡◌, ℕ, inl, inr, List, [], ◌∷◌, refl, sym, ap, subst, ◌∙◌}
 use Rattle.turn_cell.specs.declared.view.View.{View}
 use Rattle.outside.specs.declared.files.Files.{Ghosts}
 use Rattle.outside.specs.declared.files.FindOut.{FindOut}

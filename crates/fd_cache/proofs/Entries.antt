@@ -1,11 +1,11 @@
 -- What a change of one entry makes of all, and of whose leases they keep.
-use Rattle.std.proofs.Common.{◌≡◌, ℕ, zero, suc, ◌+◌, ◌<◌, ◌==◌, Bool, true, false, List, [], ◌∷◌, ◌++◌, length, drop, Option, Some, None, refl, sym, ap, subst, ◌∙◌, if◌then◌else◌, arith}
-use Rattle.std.specs.Prelude.{IsSome, IsSomeAnd, option_map, slice_get, slice_index_or, slice_set}
+use Rattle.std.proofs.Common.{◌≡◌, ℕ, zero, suc, ◌<◌, ◌==◌, Bool, true, false, List, [], ◌∷◌, length, drop, Option, Some, None, refl, sym, ap, subst, ◌∙◌, if◌then◌else◌}
+use Rattle.std.specs.Prelude.{IsSomeAnd, option_map, slice_get, slice_set}
 use Rattle.std.proofs.lemmas.Bool.{eqb-true, eq-eqb}
-use Rattle.std.proofs.lemmas.Grind.{common_steps, get_or-set_at}
+use Rattle.std.proofs.lemmas.Grind.{get_or-set_at}
 use Rattle.std.proofs.lemmas.List.{get_or-set_other}
 use Rattle.fd_cache.specs.declared.deed.CacheDeed.{CacheDeed}
-use Rattle.fd_cache.specs.History.{HasPath, IsCacheReply, Standing, after, begun, entry_at, given_back, idle_at, is_left, lent, swept}
+use Rattle.fd_cache.specs.History.{HasPath, IsCacheReply, Standing, after, begun, given_back, idle_at, is_left, lent, swept}
 use Rattle.fd_cache.specs.Represents.{ShelfRepresents}
 use Rattle.fd_cache.specs.Shelf.{KeepsOwn, at}
 

@@ -1,8 +1,8 @@
 -- The reply that an entry calls for.
-use Rattle.std.proofs.Common.{◌≡◌, ℕ, zero, suc, ◌+◌, ◌-◌, ◌^◌, ◌<◌, ◌≤◌, Bool, true, false, List, [], ◌∷◌, length, drop, Option, Some, None, refl, sym, ap, subst, ◌∙◌, arith}
-use Rattle.std.specs.Prelude.{IsSome, IsSomeAnd, slice_get}
+use Rattle.std.proofs.Common.{◌≡◌, ℕ, ◌-◌, ◌^◌, ◌<◌, List, [], ◌∷◌, drop, Option, Some, None, refl, ap, arith}
+use Rattle.std.specs.Prelude.{IsSomeAnd, slice_get}
 use Rattle.fd_cache.specs.declared.deed.CacheDeed.{CacheDeed}
-use Rattle.fd_cache.specs.History.{GivesLast, GivesNone, HasPath, IsFresh, IsLeasedOut, Standing, entry_at, idle_at}
+use Rattle.fd_cache.specs.History.{GivesLast, HasPath, IsFresh, IsLeasedOut, Standing, idle_at}
 
 module _ {L : Type 0} where
   -- a path's entry that isn't leased out has room for one lease more

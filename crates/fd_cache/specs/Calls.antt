@@ -1,5 +1,5 @@
 -- To be believed: which deed a call and its reply come to, what a call has to meet, and how a reply answers it.
-use Rattle.std.specs.Prelude.{◌≡◌, ℕ, List, [], Option, Some, None, IsSome, string_bytes}
+use Rattle.std.specs.Prelude.{◌≡◌, ℕ, [], Option, Some, None, IsSome, string_bytes}
 use Rattle.outside.specs.declared.files.Files.{Ghosts}
 use Rattle.outside.specs.Folder.{HasFile}
 use Rattle.fd_cache.specs.declared.lease.Lease.{Lease}

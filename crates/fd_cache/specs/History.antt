@@ -1,5 +1,5 @@
 -- To be believed: the history of a cache, its newest deed first, and the reply that it calls for.
-use Rattle.std.specs.Prelude.{◌≡◌, ◌≢◌, ℕ, zero, suc, ◌+◌, ◌-◌, ◌^◌, ◌<◌, ◌≤◌, ◌⊎◌, ◌&&◌, ◌==◌, nat_lt, bytes_eq, List, [], ◌∷◌, ◌++◌, length, drop, Bool, true, false, not, Option, Some, None, IsSome, IsSomeAnd, option_map, if◌then◌else◌}
+use Rattle.std.specs.Prelude.{◌≡◌, ℕ, zero, suc, ◌+◌, ◌-◌, ◌^◌, ◌<◌, ◌≤◌, ◌⊎◌, ◌&&◌, ◌==◌, nat_lt, bytes_eq, List, [], ◌∷◌, ◌++◌, length, drop, Bool, true, false, not, Option, Some, None, IsSome, IsSomeAnd, option_map, if◌then◌else◌}
 use Rattle.fd_cache.specs.declared.deed.CacheDeed.{CacheDeed}
 use Rattle.fd_cache.specs.declared.deed.CacheDeed.TheVariants.{Hit, Fresh, Bypass, Made, Abandoned, Kept, Extra, Reaped}
 

@@ -182,3 +182,20 @@ fn a_path_beyond_256_entries_is_leased_without_one(rt: HostRuntime) -> Result<()
     takes_all_entries::<Brand>(&rt, alloc, contents)?;
     Ok(())
 }
+
+/// Takes what may move to another thread.
+fn moves<X: Send>(_moved: &X) {}
+
+/// Takes what threads may share.
+fn shares<X: Sync>(_shared: &X) {}
+
+#[test]
+fn a_cache_may_move_to_another_thread_and_be_shared(rt: HostRuntime) -> Result<(), Fail> {
+    let alloc = rt.alloc();
+    let cache = Cache::<MemFiles<Brand>>::new(alloc)?;
+    moves(&cache);
+    let (cell, pass) = TurnCell::new(alloc, cache)?;
+    shares(&cell);
+    moves(&pass);
+    Ok(())
+}

@@ -20,8 +20,8 @@ use Rattle.fd_wait.specs.Waiting.{HasMade, MetSpent}
 pub made_none : (x : View Entry) → HasMade [] x x
 made_none x = record { own = sym (append-nil (own_entries x)); begins = prefix_refl x.seen; classes = refl }
 
-pub made_one : (e : Entry) (x y : View Entry) → StripeEntered e x y → HasMade (e ∷ []) x y
-made_one e x y k = record {
+pub made_one : (s : ℕ) (e : Entry) (x y : View Entry) → StripeEntered s e x y → HasMade (e ∷ []) x y
+made_one s e x y k = record {
   own = k.own;
   begins = (k.between ++ (seat_of x, e) ∷ [], sym (append_assoc x.seen k.between ((seat_of x, e) ∷ [])) ∙ sym k.seen);
   classes = k.classes;
@@ -36,8 +36,8 @@ made_then es fs x y z a b = let put : ℕ → Entry → ℕ × Entry = λ n e. (
     }
 
 -- a call that found the cell spent makes none
-pub spent_made : (x y : View Entry) → StripeSpent x y → HasMade [] x y × MetSpent y
-spent_made x y k = let seen = k.unmoved.seen in let classes = k.unmoved.classes in (
+pub spent_made : (s : ℕ) (x y : View Entry) → StripeSpent s x y → HasMade [] x y × MetSpent y
+spent_made s x y k = let seen = k.unmoved.seen in let classes = k.unmoved.classes in (
   record {
     own = (λ i. entries_in (classes i) (seen i)) ∙ sym (append-nil (own_entries x));
     begins = ([], append-nil x.seen ∙ sym seen);

@@ -24,7 +24,7 @@ use Rattle.reg_keys.specs.Promises.{weight, times, times_ended, IsOwnPlace, Runs
 use Rattle.reg_keys.specs.Accounts.{draws, run_of, weight_run, weight_registered, DrawsEachOnce, RunsWhatWasRegistered, TellsOfFlags}
 use Rattle.reg_keys.proofs.TestLemmas.{same_is, same_key_is, same_key_self, same_dir_is, many_some, in_some, in_map}
 use Rattle.reg_keys.proofs.Pasts.{in_right}
-use Rattle.fd_wait.specs.OwnFlags.{OwnFlag, registers, HasRun, WasShut}
+use Rattle.fd_wait.specs.OwnFlags.{OwnFlag, registers, FlagRan, WasShut}
 
 module _ {A : Type 0} where
   -- the place of one that is in a list
@@ -146,7 +146,7 @@ module _ (past : List Entry) (each : DrawsEachOnce past) (f : OwnFlag) (mine : I
       let g = and_parts (same_dir r.dir f.dir) (is_flag r.kind) (not_not (same_dir r.dir f.dir && is_flag r.kind) e) in
       (same_dir_is r.dir f.dir g.0, flag_is r.kind g.1)
 
-  pub has_run : (s c : ℕ) → RunsOnce s c past → RunsWhatWasRegistered past → TellsOfFlags past → (d : Dir) (marks : Marks) → IsIn (Ask f.key (Asked.Ran d marks)) past → (d ≡ f.dir) × HasRun f marks past
+  pub has_run : (s c : ℕ) → RunsOnce s c past → RunsWhatWasRegistered past → TellsOfFlags past → (d : Dir) (marks : Marks) → IsIn (Ask f.key (Asked.Ran d marks)) past → (d ≡ f.dir) × FlagRan f marks past
   has_run s c once runs flags d marks asked = let h = flags.ran f.key d marks asked in let r = h.3 in let e : Entry = Dispatch h.0 (Dispatches.Ran h.1 h.2) in
       let cut = in_split e past h.4 in
       let key_in : IsIn f.key (keys_run h.1) = subst (λ (k : Key). IsIn k (keys_run h.1)) h.6 (in_map (λ (x : FiredKey). x.key) r h.1 h.5) in

@@ -15,7 +15,7 @@ use Rattle.reg_keys.proofs.Pasts.{in_right}
 use Rattle.turn_cell.specs.declared.view.View.{View}
 use Rattle.event_mgr.specs.Stripes.{stripe_of, past_in, StripeEntered}
 use Rattle.event_mgr.specs.Manager.{MgrView, IsLawful, OnlyAt, EnteredAt}
-use Rattle.fd_wait.specs.OwnFlags.{OwnFlag, registers, HasRun, WasShut}
+use Rattle.fd_wait.specs.OwnFlags.{OwnFlag, registers, FlagRan, WasShut}
 use Rattle.ready_queue.specs.declared.rule.Move.{Move}
 use Rattle.fd_wait.specs.declared.waiting.WaitOut.{WaitOut}
 use Rattle.fd_wait.specs.declared.waiting.WaitOut.TheVariants.{Ready, Closed, Shut, Crowded, Spent}
@@ -41,9 +41,9 @@ module _ (flag : OwnFlag) (u v w : MgrView) where
   registered_asked : (rs : List AskOutcome) (Then : View Entry → Type 0) → stripe_of flag.key.number ≡ place → EnteredAt place (registers flag) u v
       → OnlyAt (stripe_of flag.key.number) (λ x y. HasMade (asks flag.key rs) x y × Then y) v w → OnlyAt place (λ x z. Made rs x z × Then z) u w
   registered_asked rs Then same a b = let after : View Entry → View Entry → Type 0 = λ x y. HasMade (asks flag.key rs) x y × Then y in
-      only_imp place (λ x z. (y : View Entry) × StripeEntered (registers flag) x y × after y z) (λ x z. Made rs x z × Then z) u w
-      (λ x z t. (made_then (registers flag ∷ []) (asks flag.key rs) x t.0 z (made_one (registers flag) x t.0 t.1) t.2.0, t.2.1))
-      (only_then place (StripeEntered (registers flag)) after u v w a (subst (λ s. OnlyAt s after v w) same b))
+      only_imp place (λ x z. (y : View Entry) × StripeEntered place (registers flag) x y × after y z) (λ x z. Made rs x z × Then z) u w
+      (λ x z t. (made_then (registers flag ∷ []) (asks flag.key rs) x t.0 z (made_one place (registers flag) x t.0 t.1) t.2.0, t.2.1))
+      (only_then place (StripeEntered place (registers flag)) after u v w a (subst (λ s. OnlyAt s after v w) same b))
 
   -- what stands at the place is legal
   legal_after : (R : View Entry → View Entry → Type 0) → IsLawful w → (a : OnlyAt place R u w) → IsLegal place 1 (past_in a.stripe.after.seen)
@@ -59,7 +59,7 @@ module _ (flag : OwnFlag) (u v w : MgrView) where
   module _ (laws : Laws) (lawful : IsLawful w) (same : stripe_of flag.key.number ≡ place) (a : EnteredAt place (registers flag) u v) where
     -- the flag ran
     pub was_ready : (rs : List AskOutcome) (d : Dir) (marks : Marks) → OnlyAt (stripe_of flag.key.number) (λ x y. HasMade (asks flag.key (rs ++ Asked.Ran d marks ∷ [])) x y × Unit {0}) v w
-        → (d ≡ flag.dir) × OnlyAt place (λ x y. Made (rs ++ Asked.Ran d marks ∷ []) x y × HasRun flag marks (past_in y.seen)) u w
+        → (d ≡ flag.dir) × OnlyAt place (λ x y. Made (rs ++ Asked.Ran d marks ∷ []) x y × FlagRan flag marks (past_in y.seen)) u w
     was_ready rs d marks b = let R : View Entry → View Entry → Type 0 = Made (rs ++ Asked.Ran d marks ∷ []) in
         let made : OnlyAt place R u w = only_imp place (λ x y. R x y × Unit {0}) R u w (λ x y t. t.0) (registered_asked (rs ++ Asked.Ran d marks ∷ []) (λ y. Unit {0}) same a b) in
         let es = registers flag ∷ asks flag.key (rs ++ Asked.Ran d marks ∷ []) in
@@ -67,7 +67,7 @@ module _ (flag : OwnFlag) (u v w : MgrView) where
         let mine : IsIn (registers flag) past = made_in_past es made.stripe.before made.stripe.after (registers flag) made.stripe.moved (inl refl) in
         let told : IsIn (Ask flag.key (Asked.Ran d marks)) past = made_in_past es made.stripe.before made.stripe.after (Ask flag.key (Asked.Ran d marks)) made.stripe.moved (last_in rs (Asked.Ran d marks)) in
         let ran = has_run past (laws.each place 1 past legal) flag mine place 1 (laws.once place 1 past legal) (laws.runs place 1 past legal) (laws.flags place 1 past legal) d marks told in
-        (ran.0, with_fact R (λ y. HasRun flag marks (past_in y.seen)) made ran.1)
+        (ran.0, with_fact R (λ y. FlagRan flag marks (past_in y.seen)) made ran.1)
 
     -- its opening was closed
     pub was_closed : (rs : List AskOutcome) → OnlyAt (stripe_of flag.key.number) (λ x y. HasMade (asks flag.key (rs ++ Asked.Closed ∷ [])) x y × Unit {0}) v w
@@ -95,7 +95,7 @@ module _ (capacity : ℕ) (flag : OwnFlag) (u v w : MgrView) (q r : View Move) (
     tries = b.1.tries;
     undecided = b.1.undecided;
     put = put;
-    made = subst (λ d. OnlyAt (stripe_of flag.opening.fd) (λ x y. HasMade (registers flag ∷ asks flag.key (b.1.tries ++ Asked.Ran d marks ∷ [])) x y × HasRun flag marks (past_in y.seen)) u w) k.0 k.1;
+    made = subst (λ d. OnlyAt (stripe_of flag.opening.fd) (λ x y. HasMade (registers flag ∷ asks flag.key (b.1.tries ++ Asked.Ran d marks ∷ [])) x y × FlagRan flag marks (past_in y.seen)) u w) k.0 k.1;
   }
   waited a same put Closed b = record { key = flag.key; named = flag.named; tries = b.tries; undecided = b.undecided; put = put; made = was_closed flag u v w laws lawful same a b.tries b.made }
   waited a same put Spent b = inr (record { key = flag.key; named = flag.named; tries = b.tries; undecided = b.undecided; put = put; made = was_spent flag u v w laws lawful same a b.tries b.made })

@@ -1,4 +1,4 @@
--- What becomes of a flag of one's own, in the past of its stripe, whose latest entry comes first.
+-- To be believed: what becomes of a flag of one's own, in the past of its stripe, whose latest entry comes first.
 use Rattle.std.specs.Prelude.{◌≡◌, ℕ, List, ◌∷◌, ◌++◌, Option}
 use Rattle.reg_keys.specs.declared.opening.Opening.{Opening}
 use Rattle.reg_keys.specs.declared.event.EventName.{EventName}
@@ -28,7 +28,7 @@ abbrev pub registers : OwnFlag → Entry
 registers f = Register f.opening f.dir f.mark Flag (Waits f.key f.named)
 
 -- after it was registered, a dispatch of an event of its own opening ran it, with these marks
-pub record HasRun (f : OwnFlag) (marks : Marks) (past : List Entry) : Type 0 where
+pub record FlagRan (f : OwnFlag) (marks : Marks) (past : List Entry) : Type 0 where
   pub event : EventName
   pub ran : List FiredKey
   pub next : Option EventName

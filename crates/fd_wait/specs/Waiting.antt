@@ -1,4 +1,4 @@
--- What a wait says, over what its passes know before and after.
+-- To be believed: what a wait says, over what its passes know before and after.
 use Rattle.std.specs.Prelude.{◌≡◌, ℕ, ◌^◌, ◌⊎◌, List, [], ◌∷◌, ◌++◌, map, length, true, Option, Some, None}
 use mathlib.Core.List.{IsPrefix}
 use Rattle.reg_keys.specs.declared.opening.Opening.{Opening}
@@ -21,7 +21,7 @@ use Rattle.event_mgr.specs.Stripes.{stripe_of, past_in}
 use Rattle.event_mgr.specs.Manager.{MgrView, OnlyAt, EnteredAt, SpentAt}
 use Rattle.fd_wait.specs.declared.waiting.WaitOut.{WaitOut}
 use Rattle.fd_wait.specs.declared.waiting.WaitOut.TheVariants.{Ready, Closed, Shut, Crowded, Spent}
-use Rattle.fd_wait.specs.OwnFlags.{OwnFlag, registers, HasRun, WasShut}
+use Rattle.fd_wait.specs.OwnFlags.{OwnFlag, registers, FlagRan, WasShut}
 
 -- The pass made these entries, one after another, and no others. What it had seen begins what it has seen
 pub record HasMade (es : List Entry) (x y : View Entry) : Type 0 where
@@ -88,7 +88,7 @@ HasMetSpent capacity o d m v q w r =
 
 -- what each answer of a wait says
 abbrev pub HasWaited : ℕ → Opening → Dir → Option ℕ → MgrView → View Move → WaitOut → MgrView → View Move → Type 0
-HasWaited capacity o d m v q (Ready marks) w r = HasWaitedFor capacity o d m (Asked.Ran d marks ∷ []) (λ flag y. HasRun flag marks (past_in y.seen)) v q w r
+HasWaited capacity o d m v q (Ready marks) w r = HasWaitedFor capacity o d m (Asked.Ran d marks ∷ []) (λ flag y. FlagRan flag marks (past_in y.seen)) v q w r
 HasWaited capacity o d m v q Closed w r = HasWaitedFor capacity o d m (Asked.Closed ∷ []) (λ flag y. WasShut flag (past_in y.seen)) v q w r
 HasWaited capacity o d m v q Shut w r = EnteredAt (stripe_of o.fd) (Register o d m Flag Registers.Shut) v w × (r ≡ q)
 HasWaited capacity o d m v q Crowded w r = EnteredAt (stripe_of o.fd) (Register o d m Flag Registers.Crowded) v w × (r ≡ q)

@@ -1,9 +1,9 @@
-// Waits that can't begin, and waits that another thread ends.
+//! Waits that can't begin, and waits that another thread ends.
 ghost use Rattle.std.specs.Prelude.{[], IfOk};
 ghost use Rattle.event_mgr.specs.Manager.{IsOfMgr};
 ghost use Rattle.dispatcher.specs.Turns.{AreOf};
 
-use super::*;
+use crate::{WaitOut, wait};
 use dispatcher::DispPass;
 use event_mgr::{CloseOut, EventManager, MgrPass, OpenOut};
 use ready_queue::{PutOut, ReadyQueue, TakeOut};

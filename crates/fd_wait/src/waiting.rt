@@ -1,4 +1,5 @@
-// The wait. It registers a flag, queues the event that the registration named, if any, and asks until the flag has run or its opening was closed. Others make the turns in which that happens.
+//! The wait. It registers a flag, queues the event that the registration named, if any, and asks until the
+//! flag has run or its opening was closed. Others make the turns in which that happens.
 ghost use Rattle.std.specs.Prelude.{◌≡◌};
 ghost use Rattle.ready_queue.specs.declared.rule.Move.TheVariants.{Put};
 ghost use Rattle.ready_queue.specs.Calls.{IsOf, view_of, capacity_of, HasMoved};
@@ -32,28 +33,32 @@ pub enum WaitOut {
     Spent,
 }
 
-/// Waits until an opening is reported ready for a direction, or is closed. A mark tells which report the caller has used up.
+/// Waits until an opening is reported ready for a direction, or is closed. A mark tells which report the
+/// caller has used up.
 ///
-/// The caller gets no job and runs none: others report, dispatch and close. Where the queue is full it tries again until the event that its registration named is put, and between two tries, of the queue as of the flag, it yields. If another asks for its flag, it is told nothing and asks for ever.
+/// The caller gets no job and runs none: others report, dispatch and close. Where the queue is full it tries
+/// again until the event that its registration named is put, and between two tries, of the queue as of the
+/// flag, it yields. If another asks for its flag, it is told nothing and asks for ever.
 pub fn wait<T: Load, R: Wait>(
     rt: &R,
     mgr: &EventManager<T>,
     queue: &ReadyQueue,
     passes: &mut DispPass<T>,
-    o: Opening,
+    opening: Opening,
     dir: Dir,
     mark: Option<u64>,
 ) -> WaitOut
     requires own { AreOf mgr.now queue.now passes.old }
     ensures own { AreOf mgr.now queue.now passes.new }
     ensures hand { passes.new.hand ≡ passes.old.hand }
-    ensures waited { HasWaited (capacity_of queue.now) o dir mark (mgr_view passes.old.mgr) (view_of passes.old.queue) result (mgr_view passes.new.mgr) (view_of passes.new.queue) }
+    ensures waited { HasWaited (capacity_of queue.now) opening dir mark (mgr_view passes.old.mgr) (view_of passes.old.queue) result (mgr_view passes.new.mgr) (view_of passes.new.queue) }
 {
+    // Laws of legal histories, for the proof: they do nothing when run.
     legal_runs_once();
     legal_draws_each_once();
     legal_runs_what_was_registered();
     legal_tells_of_flags();
-    match mgr.register(rt, &mut passes.mgr, o, dir, mark, Payload::Flag) {
+    match mgr.register(rt, &mut passes.mgr, opening, dir, mark, Payload::Flag) {
         RegisterReply::Waits(key, Some(event)) => {
             put_until_taken(rt, queue, &mut passes.queue, event);
             ask_until_told(rt, mgr, &mut passes.mgr, key)
@@ -65,7 +70,7 @@ pub fn wait<T: Load, R: Wait>(
     }
 }
 
-// Puts an event. A full queue is tried again.
+/// Puts an event. A full queue is tried again.
 fn put_until_taken<R: Wait>(rt: &R, queue: &ReadyQueue, pass: &mut QPass, event: Event)
     requires { IsOf queue.now pass.old }
     ensures own { IsOf queue.now pass.new }
@@ -82,7 +87,8 @@ fn put_until_taken<R: Wait>(rt: &R, queue: &ReadyQueue, pass: &mut QPass, event:
     unreachable!()
 }
 
-// Asks for a flag until it has run or was closed.
+/// Asks for a flag until it has run or was closed. `Unknown` says that another has asked for it and was told:
+/// how the wait ended can't be known any more, so it asks on as where the flag waits.
 fn ask_until_told<T: Load, R: Wait>(
     rt: &R,
     mgr: &EventManager<T>,
@@ -98,15 +104,9 @@ fn ask_until_told<T: Load, R: Wait>(
             AskOut::Ran(_, marks) => return WaitOut::Ready(marks),
             AskOut::Closed => return WaitOut::Closed,
             AskOut::Spent => return WaitOut::Spent,
-            AskOut::Waiting => {
-                yield_now();
-                continue;
-            }
-            AskOut::Unknown => {
-                yield_now();
-                continue;
-            }
+            AskOut::Waiting | AskOut::Unknown => {}
         }
+        yield_now();
     }
     unreachable!()
 }

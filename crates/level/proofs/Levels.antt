@@ -44,9 +44,9 @@ module _ {E : Type 0} where
         below = λ k x less at. ⊎_elim
             (λ (z : k ≡ 0). subst (λ (y : Log E). IsPrefix y h) (same_Some h x (sym here ∙ (ap (slice_get ms) (sym z) ∙ at))) (prefix_refl h))
             (λ (z : k ≢ 0). let was : slice_get ls k ≡ Some x = sym (elsewhere k z) ∙ at in ⊎_elim
-                (λ (y : k ≡ i). subst (λ (l : Log E). IsPrefix l h) (same_Some u x (sym s.2 ∙ (ap (slice_get ls) (sym y) ∙ was))) s.5)
-                (λ (y : k ≢ i). prefix_trans x w h (subst (IsPrefix x) (sym first) (g.below k x (omega arith) was)) s.6)
-                (same_or k i))
+            (λ (y : k ≡ i). subst (λ (l : Log E). IsPrefix l h) (same_Some u x (sym s.2 ∙ (ap (slice_get ls) (sym y) ∙ was))) s.5)
+            (λ (y : k ≢ i). prefix_trans x w h (subst (IsPrefix x) (sym first) (g.below k x (omega arith) was)) s.6)
+            (same_or k i))
             (same_or k 0);
         from = cond_both (nat_lt (length w) (length u)) u w (λ (l : Log E). (k : ℕ) × (slice_get olds k ≡ Some l))
             (λ _. (i, sym (g.others i some) ∙ s.2))
@@ -72,9 +72,9 @@ module _ {E : Type 0} where
       let first : u ≡ g.log = same_Some u g.log (sym s.2 ∙ g.first) in
       let whole : longer w u ≡ u = longer_right w u (subst (IsPrefix w) (sym first) (g.below i w s.3)) in
       let at : (k : ℕ) (x : Log E) → slice_get ms k ≡ Some x → ((k ≡ i) × (x ≡ u)) ⊎ ((k ≢ i) × (slice_get ls k ≡ Some x)) = λ k x is. ⊎_elim
-          (λ (y : k ≡ i). inl (y, sym (same_Some (longer w u) x (sym (ap (λ (l : List (Log E)). slice_get l i) s.4 ∙ get_here ls i (longer w u) w s.3) ∙ (ap (slice_get ms) (sym y) ∙ is))) ∙ whole))
-          (λ (y : k ≢ i). inr (y, sym (get_else ls i k (longer w u) y) ∙ (ap (λ (l : List (Log E)). slice_get l k) (sym s.4) ∙ is)))
-          (same_or k i) in record {
+      (λ (y : k ≡ i). inl (y, sym (same_Some (longer w u) x (sym (ap (λ (l : List (Log E)). slice_get l i) s.4 ∙ get_here ls i (longer w u) w s.3) ∙ (ap (slice_get ms) (sym y) ∙ is))) ∙ whole))
+      (λ (y : k ≢ i). inr (y, sym (get_else ls i k (longer w u) y) ∙ (ap (λ (l : List (Log E)). slice_get l k) (sym s.4) ∙ is)))
+      (same_or k i) in record {
         log = u;
         first = ap (λ (l : List (Log E)). slice_get l 0) s.4 ∙ (get_else ls i 0 (longer w u) (λ e. omega arith) ∙ s.2);
         below = λ k x is. ⊎_elim

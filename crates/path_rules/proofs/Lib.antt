@@ -1,2 +1,3 @@
 pub mod Places
 pub mod RouteLemmas
+pub mod PlainLemmas

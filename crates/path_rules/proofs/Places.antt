@@ -18,7 +18,7 @@ first_or_length p xs None none =
 first_or_length p xs (Some k) (found, passes) =
     sym (position_or_len_is p xs k 0 (omega (arith, found.high)) (λ j l. fails (p (get_or xs j 0)) (found.before j (omega arith) l)) (λ _. passes))
 
--- the list behind the last place that passes
+-- the list after the last place that passes
 pub after_last-at : (p : ℕ → Bool) (xs : List ℕ) (k : ℕ) → IsLastByte p xs (Some k) → after_last p xs ≡ drop (k + 1) xs
 after_last-at p xs k (found, passes) =
     let small : k < length xs = found.high in

@@ -107,7 +107,7 @@ pub last-long : (written segment : List ℕ) → is_name (percent_decode segment
 unfolding route_behind
 last-long written segment name long = rw (name, above (length (written ++ percent_decode segment)) 3900 long) refl
 
--- behind an empty last segment stands the index
+-- after an empty last segment stands the index
 pub last-index : (written segment : List ℕ) → is_name (percent_decode segment) ≡ true → length (written ++ percent_decode segment) ≤ 3900 → is_empty segment ≡ true
     → route_behind written (segment ∷ []) ≡ index ((written ++ percent_decode segment) ++ codes "index.html")
 unfolding route_behind

@@ -61,7 +61,7 @@ route_in segments =
     then (if ends_empty segments then index (joined segments ++ index_name) else path (joined segments))
     else not_found
 
--- an authority with nothing behind it has the path `/`
+-- an authority with nothing after it has the path `/`
 abbrev pub or_root : List ℕ → List ℕ
 or_root [] = codes "/"
 or_root (b ∷ bs) = b ∷ bs
@@ -72,7 +72,7 @@ raw_text target Origin = Some (slice_range target (raw_path_of target).0 (raw_pa
 raw_text target (Absolute authority) = Some (or_root (slice_range target (raw_path_of target).0 (raw_path_of target).1))
 raw_text target Neither = None
 
--- what the bytes behind the first `/` of a raw path stand for: they are cut at `/` into segments
+-- what the bytes after the first `/` of a raw path stand for: they are cut at `/` into segments
 abbrev pub route_by : Option (List ℕ) → RouteOf
 route_by None = not_found
 route_by (Some bytes) = route_in (slice_split is_slash bytes)

@@ -19,7 +19,7 @@ is_question_mark b = b == 63
 abbrev pub ends_authority : ℕ → Bool
 ends_authority b = is_slash b || is_question_mark b
 
--- the place behind the authority that begins at a place
+-- the place after the authority that begins at a place
 abbrev pub authority_end : List ℕ → ℕ → ℕ
 authority_end target start = start + position_or_len ends_authority (drop start target)
 

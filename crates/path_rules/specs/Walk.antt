@@ -6,14 +6,14 @@ use Rattle.path_rules.specs.Target.{is_slash}
 use Rattle.percent_encoding.specs.Percent.{percent_decode}
 use Rattle.path_rules.specs.Route.{RouteOf, not_found, index, path, is_empty, is_full_to_last, is_name, ends_empty, joined}
 
--- what segments stand for behind a written path
+-- what segments stand for after a written path
 unfoldable pub route_behind : List ℕ → List (List ℕ) → RouteOf
 route_behind written segments =
     if is_full_to_last segments && list_all is_name (map percent_decode segments) && nat_le (length (written ++ joined segments)) longest_path
     then (if ends_empty segments then index ((written ++ joined segments) ++ index_name) else path (written ++ joined segments))
     else not_found
 
--- a segment can follow so many written bytes as a folder, with a `/` behind it
+-- a segment can follow so many written bytes as a folder, with a `/` after it
 unfoldable pub can_follow : ℕ → List ℕ → Bool
 can_follow written segment =
     not (is_empty segment) && is_name (percent_decode segment) && nat_le (written + length (percent_decode segment) + 1) 8192

@@ -55,7 +55,7 @@ impl PathBuf8 {
         self.held.clear();
     }
 
-    /// Writes the piece behind what is there. `false` says that it doesn't fit, and then nothing has changed.
+    /// Writes the piece after what is there. `false` says that it doesn't fit, and then nothing has changed.
     pub fn add(&mut self, piece: &str) -> bool
         ensures fits { IsTrue result ↔ (length self.old + length piece.now ≤ PATH_BYTES) }
         ensures added { self.new ≡ (if result then self.old ++ piece.now else self.old) }

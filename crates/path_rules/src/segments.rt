@@ -43,10 +43,9 @@ fn decode(segment: &[u8], bytes: &mut [u8]) -> Option<usize>
 /// The decoded segment as a name, where it is one.
 #[tactic(auto, unfolding(crate::specs::Route::is_name))]
 fn name_of(bytes: &[u8]) -> Option<&str>
-    requires { length bytes.now ≤ LONGEST_NAME }
     ensures { MatchOption result (is_name bytes.now ≡ false) (λ name. (name.now ≡ bytes.now) × (is_name bytes.now ≡ true)) }
 {
-    if is_hidden(bytes) || holds_forbidden(bytes) {
+    if bytes.len() > LONGEST_NAME || is_hidden(bytes) || holds_forbidden(bytes) {
         return None;
     }
     match str::from_utf8(bytes) {
@@ -69,23 +68,36 @@ fn holds_forbidden(name: &[u8]) -> bool
     name.iter().any(|b| *b == 0 || *b == b'/' || *b == b'\\')
 }
 
-/// Writes a segment, decoded, behind the path. `false` says that it is no name or doesn't fit, and then the path is as
+/// Writes a segment, decoded, after the path. `false` says that it is no name or doesn't fit, and then the path is as
 /// it was.
+#[tactic(auto, using(crate::proofs::PlainLemmas::plain))]
 pub(crate) fn add_segment(segment: &[u8], out: &mut PathBuf8) -> bool
     ensures is { result ≡ (is_name (decoded segment.now) && nat_le (length out.old + length (decoded segment.now)) PATH_BYTES) }
     ensures added { out.new ≡ (if result then out.old ++ decoded segment.now else out.old) }
 {
+    // Without `%` there is nothing to decode, so it is a name as it stands or none.
+    if !segment.contains(&b'%') {
+        return add_name(segment, out);
+    }
     let mut bytes = [0u8; LONGEST_NAME];
     let Some(len) = decode(segment, &mut bytes) else {
         return false;
     };
-    match name_of(&bytes[..len]) {
+    add_name(&bytes[..len], out)
+}
+
+/// Writes a name after the path. `false` says that it is none or doesn't fit, and then the path is as it was.
+fn add_name(bytes: &[u8], out: &mut PathBuf8) -> bool
+    ensures is { result ≡ (is_name bytes.now && nat_le (length out.old + length bytes.now) PATH_BYTES) }
+    ensures added { out.new ≡ (if result then out.old ++ bytes.now else out.old) }
+{
+    match name_of(bytes) {
         Some(name) => out.add(name),
         None => false,
     }
 }
 
-/// Writes the segment of a folder, decoded, behind the path, and a `/` behind it. `false` says that it is empty, is no
+/// Writes the segment of a folder, decoded, after the path, and a `/` after it. `false` says that it is empty, is no
 /// name or doesn't fit.
 #[tactic(auto, unfolding(crate::specs::Walk::can_follow))]
 pub(crate) fn add_folder(segment: &[u8], out: &mut PathBuf8) -> bool

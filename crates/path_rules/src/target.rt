@@ -58,7 +58,7 @@ fn has_scheme(target: &[u8], scheme: &[u8]) -> bool
     }
 }
 
-/// The place behind the scheme, where the target begins with it and an authority of at least one byte follows.
+/// The place after the scheme, where the target begins with it and an authority of at least one byte follows.
 #[tactic(auto, unfolding(crate::specs::Target::behind_scheme))]
 fn behind_scheme(target: &[u8], scheme: &[u8]) -> Option<usize>
     ensures is { result ≡ behind_scheme target.now scheme.now }
@@ -87,7 +87,7 @@ fn question_mark(bytes: &[u8]) -> usize
     memchr(b'?', bytes).unwrap_or(bytes.len())
 }
 
-/// The place behind the authority that begins at `start`.
+/// The place after the authority that begins at `start`.
 fn authority_end(target: &[u8], start: usize) -> usize
     requires { start ≤ length target.now }
     ensures is { result ≡ authority_end target.now start }
@@ -106,7 +106,7 @@ fn path_end(target: &[u8], start: usize) -> usize
     start + question_mark(&target[start..])
 }
 
-/// The span of the raw path: the places of its first byte and behind its last byte. It is empty behind an authority with
+/// The span of the raw path: the places of its first byte and after its last byte. It is empty after an authority with
 /// no path, and (0, 0) where the target is of neither form.
 #[tactic(auto, unfolding(crate::specs::Target::raw_path_of))]
 pub fn raw_path(target: &[u8]) -> (usize, usize)

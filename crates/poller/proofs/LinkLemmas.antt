@@ -1,7 +1,7 @@
 -- What a link of a memory net gives and takes.
 use Rattle.std.proofs.Common.{◌≡◌, ℕ, ◌+◌, ◌-◌, ◌≤◌, ◌<◌, ◌==◌, ◌≢◌, eq-eqb, ne_eqb, cond, Bool, true, false, List, [], ◌∷◌, ◌++◌, length, take, drop, min, refl, sym, ap, ◌∙◌, arith}
 use Rattle.std.proofs.Math.Seq.{take-add, take-append_seam}
-use Rattle.std.proofs.lemmas.List.{drop-take, take-append-drop, take-take, length-append, length-drop, length-take}
+use Rattle.std.proofs.lemmas.List.{drop-take, nil_from_length, take-append-drop, take-take, length-append, length-drop, length-take}
 use Rattle.poller.specs.declared.script.ScriptStep.{ScriptStep}
 use Rattle.outside.specs.declared.link.ReadOut.TheVariants as Reads
 use Rattle.outside.specs.declared.link.WriteOut.TheVariants as Writes
@@ -9,10 +9,6 @@ use Rattle.outside.specs.Room.{RoomState}
 use Rattle.poller.specs.NetLinks.{NetLink, ReadsNet, WritesNet, can_take, is_whole, net_read_answer, net_write_answer}
 use Rattle.poller.specs.Scripts.{pieces_in}
 use Rattle.poller.proofs.ScriptLemmas.{pieces_append}
-
-no_length : (xs : List ℕ) → length xs ≡ 0 → xs ≡ []
-no_length [] none = refl
-no_length (x ∷ xs) none = absurd (omega arith)
 
 -- a part that lies within a beginning is a part of the whole
 part_of : (xs : List ℕ) (g n r : ℕ) → g + n ≤ r → take n (drop g (take r xs)) ≡ take n (drop g xs)
@@ -37,7 +33,7 @@ some_there : (whole : Bool) (there : List ℕ) (size : ℕ) → 0 < length there
 some_there whole [] size some = absurd (omega arith)
 some_there whole (byte ∷ bytes) size some = refl
 
-module _ (l : NetLink) (d0 k0 d reach : ℕ) (is : d ≡ l.delivered) (looked : l.loads ≡ k0 + 1) (later : d0 ≤ d) (most : d ≤ length l.steps) (reaches : reach ≡ length (pieces_in (take d l.steps))) where
+module _ (l : NetLink) (d0 k0 d reach : ℕ) (is : d ≡ l.delivered) (looked : l.looks ≡ k0 + 1) (later : d0 ≤ d) (most : d ≤ length l.steps) (reaches : reach ≡ length (pieces_in (take d l.steps))) where
   -- what is there of the delivered steps
   abbrev there : List ℕ
   there = drop l.given (pieces_in (take l.delivered l.steps))
@@ -56,7 +52,7 @@ module _ (l : NetLink) (d0 k0 d reach : ℕ) (is : d ≡ l.delivered) (looked : 
       got : take n buf ≡ take n there
       got = same ∙ (ap (λ (t : List ℕ). take n (drop l.given t)) reached ∙ ap (take n) there_is)
 
-      pub plays_got : ReadsNet (record l { delivered = d0; loads = k0 }) (record l { given = l.given + n }) (Reads.Got n) buf
+      pub plays_got : ReadsNet (record l { delivered = d0; looks = k0 }) (record l { given = l.given + n }) (Reads.Got n) buf
       plays_got = let long = there_long in record {
         later = omega (arith, later, is);
         most = omega (arith, most, is);
@@ -73,9 +69,9 @@ module _ (l : NetLink) (d0 k0 d reach : ℕ) (is : d ≡ l.delivered) (looked : 
 
   module _ (none : reach ≤ l.given) where
     nothing : there ≡ []
-    nothing = let long = there_long in no_length there (omega (arith, long, none))
+    nothing = let long = there_long in nil_from_length there (omega (arith, long, none))
 
-    pub plays_end : (buf : List ℕ) → d ≡ length l.steps → ReadsNet (record l { delivered = d0; loads = k0 }) (record l { ended = true }) Reads.End buf
+    pub plays_end : (buf : List ℕ) → d ≡ length l.steps → ReadsNet (record l { delivered = d0; looks = k0 }) (record l { ended = true }) Reads.End buf
     plays_end buf all = record {
       later = omega (arith, later, is);
       most = omega (arith, most, is);
@@ -86,7 +82,7 @@ module _ (l : NetLink) (d0 k0 d reach : ℕ) (is : d ≡ l.delivered) (looked : 
       gives = omega arith;
     }
 
-    pub plays_wait : (buf : List ℕ) → d ≢ length l.steps → ReadsNet (record l { delivered = d0; loads = k0 }) l Reads.NotYet buf
+    pub plays_wait : (buf : List ℕ) → d ≢ length l.steps → ReadsNet (record l { delivered = d0; looks = k0 }) l Reads.NotYet buf
     plays_wait buf some = record {
       later = omega (arith, later, is);
       most = omega (arith, most, is);
@@ -105,8 +101,8 @@ waited : (size can n : ℕ) → n ≡ min size can → n ≡ 0 → Writes.NotYet
 waited size can n is none = let b : (min size can == 0) ≡ true = eq-eqb (min size can) 0 (sym is ∙ none) in
     ap (λ (t : Bool). cond t Writes.NotYet (Writes.Took (min size can))) (sym b)
 
-module _ (l : NetLink) (d0 k0 d size can n : ℕ) (is : d ≡ l.delivered) (looked : l.loads ≡ k0 + 1) (later : d0 ≤ d) (most : d ≤ length l.steps) (can_is : can ≡ can_take l) (count : n ≡ min size can) where
-  pub plays_took : (room : RoomState) → n ≢ 0 → WritesNet (record l { delivered = d0; loads = k0 }) (record l { room = room }) size (Writes.Took n)
+module _ (l : NetLink) (d0 k0 d size can n : ℕ) (is : d ≡ l.delivered) (looked : l.looks ≡ k0 + 1) (later : d0 ≤ d) (most : d ≤ length l.steps) (can_is : can ≡ can_take l) (count : n ≡ min size can) where
+  pub plays_took : (room : RoomState) → n ≢ 0 → WritesNet (record l { delivered = d0; looks = k0 }) (record l { room = room }) size (Writes.Took n)
   plays_took room some = record {
     later = omega (arith, later, is);
     most = omega (arith, most, is);
@@ -115,7 +111,7 @@ module _ (l : NetLink) (d0 k0 d size can n : ℕ) (is : d ≡ l.delivered) (look
     answer = took size (can_take l) n (count ∙ ap (min size) can_is) some;
   }
 
-  pub plays_full : n ≡ 0 → WritesNet (record l { delivered = d0; loads = k0 }) l size Writes.NotYet
+  pub plays_full : n ≡ 0 → WritesNet (record l { delivered = d0; looks = k0 }) l size Writes.NotYet
   plays_full none = record {
     later = omega (arith, later, is);
     most = omega (arith, most, is);

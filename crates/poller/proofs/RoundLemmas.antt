@@ -9,7 +9,7 @@ use Rattle.poller.specs.declared.limits.TheConstants.{REPORTS}
 use Rattle.poller.specs.declared.mem_poller.Entry.{Entry}
 use Rattle.poller.specs.Polls.{Report}
 use Rattle.poller.specs.Rounds.{HasMetFirst, IsRound, Meeting, Rounding, is_done, met_as, raised_of, reports_of, stays_as}
-use Rattle.poller.specs.Ports.{FeedState}
+use Rattle.poller.specs.LinkSeats.{DeliveryState}
 use Rattle.std.specs.Prelude.{nat_lt}
 
 -- no entry was met yet
@@ -55,11 +55,11 @@ pub some_left : (old now : List Entry) (reports : List Report) (n : ℕ) → 0 <
 some_left old now reports n some r = let a = ap length r.after in let b = length-append r.others (flat_map stays_as r.met) in let c = r.left in omega (arith, a, b, c, some)
 
 -- an entry whose link had left is marked, and isn't reported
-pub left_kept : (e : Entry) (f : FeedState) → is_done e ≡ false → 0 < f.left → f ≡ record e.feed { left = f.left; looks = e.feed.looks + 1 } → record e { feed = f } ∷ [] ≡ stays_as (record { entry = e; found = f.left })
+pub left_kept : (e : Entry) (f : DeliveryState) → is_done e ≡ false → 0 < f.left → f ≡ record e.delivery { left = f.left; looks = e.delivery.looks + 1 } → record e { delivery = f } ∷ [] ≡ stays_as (record { entry = e; found = f.left })
 left_kept e f going some is =
     let b : (f.left == 0) ≡ false = ne_eqb f.left 0 (λ h. absurd (omega (arith, h, some))) in
-    ap (λ (g : FeedState). record e { feed = g } ∷ []) is
-    ∙ (ap (λ (t : Bool). record e { feed = record e.feed { left = f.left; looks = e.feed.looks + 1; delivered = cond t (e.feed.delivered + 1) e.feed.delivered } } ∷ []) (sym b)
+    ap (λ (g : DeliveryState). record e { delivery = g } ∷ []) is
+    ∙ (ap (λ (t : Bool). record e { delivery = record e.delivery { left = f.left; looks = e.delivery.looks + 1; delivered = cond t (e.delivery.delivered + 1) e.delivery.delivered } } ∷ []) (sym b)
     ∙ ap (λ (t : Bool). cond t [] (met_as e f.left ∷ [])) (sym going))
 
 pub left_silent : (e : Entry) (found : ℕ) (reports : List Report) → is_done e ≡ false → 0 < found → reports ≡ reports ++ reports_of (raised_of (record { entry = e; found = found }))

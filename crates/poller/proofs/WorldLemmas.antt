@@ -1,5 +1,6 @@
 -- The steps of a memory net are lawful steps of the device world.
-use Rattle.std.proofs.Common.{◌≡◌, ℕ, ◌+◌, ◌-◌, ◌≤◌, ◌==◌, ◌&&◌, ◌||◌, cond, Bool, true, false, List, [], ◌∷◌, refl, ap, ◌∙◌, eq-eqb, arith}
+use Rattle.std.proofs.Common.{◌≡◌, ℕ, ◌+◌, ◌-◌, ◌≤◌, ◌&&◌, ◌||◌, cond, Bool, true, false, List, [], ◌∷◌, refl, ap, ◌∙◌, eq-eqb, arith}
+use Rattle.std.specs.Cmp.Derive.{both_true}
 use Rattle.std.specs.List.{list_any}
 use Rattle.reg_keys.specs.declared.opening.Opening.{Opening}
 use Rattle.reg_keys.specs.declared.registration.Dir.{Dir}
@@ -8,12 +9,8 @@ use Rattle.reg_keys.specs.Tests.{one_if, same, same_dir}
 use Rattle.reg_keys.specs.World.{World, world_at}
 use Rattle.poller.specs.NetSteps.{RaisesAreLawful, WaitIsLawful, WasTold, steps_of_raise}
 
-both_true : (a b : Bool) → a ≡ true → b ≡ true → (a && b) ≡ true
-both_true true b p q = q
-both_true false b p q = p
-
 same_self : (o : Opening) → same o o ≡ true
-same_self o = both_true (o.number == o.number) (o.fd == o.fd) (eq-eqb o.number o.number refl) (eq-eqb o.fd o.fd refl)
+same_self o = both_true (eq-eqb o.number o.number refl) (eq-eqb o.fd o.fd refl)
 
 same_dir_self : (d : Dir) → same_dir d d ≡ true
 same_dir_self Read = refl

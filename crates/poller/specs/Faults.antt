@@ -1,4 +1,4 @@
--- The counts by which a fault of a poller is known.
+-- To be believed: the counts by which a fault of a poller is known.
 use Rattle.std.specs.Prelude.{◌≡◌, ℕ, ◌≤◌}
 use Rattle.outside.specs.Counts.{Rises}
 use Rattle.poller.specs.declared.poller.AddOut.{AddOut}

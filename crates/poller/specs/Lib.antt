@@ -1,4 +1,4 @@
-pub mod Courses
+pub mod LaidScripts
 pub mod Deliveries
 pub mod Faults
 pub mod NetLinks
@@ -6,7 +6,7 @@ pub mod NetListeners
 pub mod NetSteps
 pub mod PlanLaws
 pub mod Polls
-pub mod Ports
+pub mod LinkSeats
 pub mod Rounds
 pub mod Scripts
 pub mod Seats

@@ -1,4 +1,4 @@
--- What contracts know of a poller.
+-- To be believed: what contracts know of a poller, and what each poll owes.
 use Rattle.std.specs.Prelude.{Bool, List, Option}
 use Rattle.poller.specs.declared.poller.PollOut.{PollOut}
 use Rattle.poller.specs.Faults.{PollerFaults, PollsLeave}

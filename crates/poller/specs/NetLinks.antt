@@ -1,4 +1,4 @@
--- A link of a memory net: what its script has, what was delivered of it, and what it gave and took.
+-- To be believed: a link of a memory net: what its script has, what was delivered of it, and what it gave and took.
 use Rattle.std.specs.Prelude.{◌≡◌, ℕ, ◌+◌, ◌-◌, ◌≤◌, ◌==◌, Bool, false, List, [], ◌∷◌, Option, Some, if◌then◌else◌, length, drop, take, min, slice_index}
 use Rattle.atomic_table.specs.Seated.{TableId}
 use Rattle.outside.specs.Causes.{LinkTold, bytes_got}
@@ -12,7 +12,7 @@ use Rattle.poller.specs.declared.mem_link.MemLink.{MemLink}
 use Rattle.poller.specs.declared.script.Script.{Script}
 use Rattle.poller.specs.declared.script.ScriptStep.{ScriptStep}
 use Rattle.poller.specs.Deliveries.{limits_of}
-use Rattle.poller.specs.Ports.{FeedState, PortState}
+use Rattle.poller.specs.LinkSeats.{DeliveryState, LinkSeatState}
 use Rattle.poller.specs.Scripts.{allowed_in, pieces_in, room_at, steps_at}
 
 -- the number and the steps of its script, how many of them it last found delivered and how often it looked, how
@@ -22,31 +22,31 @@ pub record NetLink : Type 0 where
   pub number : ℕ
   pub steps : List ScriptStep
   pub delivered : ℕ
-  pub loads : ℕ
+  pub looks : ℕ
   pub given : ℕ
   pub ended : Bool
   pub room : RoomState
-  pub feed : Option FeedState
+  pub delivery : Option DeliveryState
 
--- the number of a port's script
-abbrev pub number_of : PortState → ℕ
-number_of port = port.word - 1
+-- the number of a seat's script
+abbrev pub number_of : LinkSeatState → ℕ
+number_of seat = seat.word - 1
 
--- the steps of a port's script
-abbrev pub script_of : PortState → List ScriptStep
-script_of port = steps_at port.scripts (number_of port)
+-- the steps of a seat's script
+abbrev pub script_of : LinkSeatState → List ScriptStep
+script_of seat = steps_at seat.scripts (number_of seat)
 
 -- what a link stands for
 abbrev pub net_link_of : MemLink → NetLink
 net_link_of link = record {
-  number = number_of link.port;
-  steps = script_of link.port;
-  delivered = link.port.delivered;
-  loads = link.port.loads;
+  number = number_of link.seat;
+  steps = script_of link.seat;
+  delivered = link.seat.delivered;
+  looks = link.seat.looks;
   given = link.given;
   ended = link.ended;
   room = link.room;
-  feed = link.port.feed;
+  delivery = link.seat.delivery;
 }
 
 -- how many answers were that the caller must wait, of reads and of writes
@@ -75,17 +75,17 @@ told_of link =
     }
 
 -- the link of the script with a number, of which nothing was asked yet: its word is one more than its number, and
--- it carries the way of its word into a poller, by which the word is raised once for each step
+-- it carries the seat that delivers its word, which raises it once for each step
 abbrev pub fresh_net_link : TableId → List Script → ℕ → NetLink
 fresh_net_link table scripts n = record {
   number = n;
   steps = steps_at scripts n;
   delivered = 0;
-  loads = 0;
+  looks = 0;
   given = 0;
   ended = false;
   room = record { stored = []; size = room_at scripts n };
-  feed = Some (record { table = table; word = n + 1; delivered = 0; limit = slice_index (limits_of scripts) (n + 1); left = 0; looks = 0 });
+  delivery = Some (record { table = table; word = n + 1; delivered = 0; limit = slice_index (limits_of scripts) (n + 1); left = 0; looks = 0 });
 }
 
 -- the bytes that were delivered and not given
@@ -115,8 +115,8 @@ net_write_answer size can = if min size can == 0 then Writes.NotYet else Writes.
 pub record ReadsNet (old new : NetLink) (result : ReadOut) (buf : List ℕ) : Type 0 where
   pub later : old.delivered ≤ new.delivered
   pub most : new.delivered ≤ length old.steps
-  pub looked : new.loads ≡ old.loads + 1
-  pub others : new ≡ record old { delivered = new.delivered; loads = new.loads; given = new.given; ended = new.ended }
+  pub looked : new.looks ≡ old.looks + 1
+  pub others : new ≡ record old { delivered = new.delivered; looks = new.looks; given = new.given; ended = new.ended }
   pub answer : result ≡ net_read_answer (is_whole new) (there_of (record old { delivered = new.delivered })) (length buf)
   pub bytes : bytes_got result buf ≡ bytes_got result (there_of (record old { delivered = new.delivered }))
   pub gives : new.given ≡ old.given + length (bytes_got result buf)
@@ -125,15 +125,15 @@ pub record ReadsNet (old new : NetLink) (result : ReadOut) (buf : List ℕ) : Ty
 pub record WritesNet (old new : NetLink) (size : ℕ) (result : WriteOut) : Type 0 where
   pub later : old.delivered ≤ new.delivered
   pub most : new.delivered ≤ length old.steps
-  pub looked : new.loads ≡ old.loads + 1
-  pub others : new ≡ record old { delivered = new.delivered; loads = new.loads; room = new.room }
+  pub looked : new.looks ≡ old.looks + 1
+  pub others : new ≡ record old { delivered = new.delivered; looks = new.looks; room = new.room }
   pub answer : result ≡ net_write_answer size (can_take (record old { delivered = new.delivered }))
 
 -- a link of which nothing changed but what it carries for a poller
 pub record IsSameLink (old new : MemLink) : Type 0 where
-  pub link : net_link_of new ≡ record (net_link_of old) { feed = new.port.feed }
+  pub link : net_link_of new ≡ record (net_link_of old) { delivery = new.seat.delivery }
   pub waits : waits_of new ≡ waits_of old
 
--- a port that a link may have: it isn't the listener's
-abbrev pub IsLinks : PortState → Type 0
-IsLinks port = 1 ≤ port.word
+-- a seat that a link may have: it isn't the listener's
+abbrev pub IsLinks : LinkSeatState → Type 0
+IsLinks seat = 1 ≤ seat.word

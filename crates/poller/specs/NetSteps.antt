@@ -1,4 +1,4 @@
--- The steps of a memory net as steps of the device world. To split a seat is none.
+-- To be believed: the steps of a memory net as steps of the device world. To split a seat is none.
 use Rattle.std.specs.Prelude.{◌≡◌, ℕ, ◌+◌, ◌||◌, List, [], ◌∷◌, ◌++◌}
 use Rattle.std.specs.List.{list_any}
 use Rattle.reg_keys.specs.declared.entry.Entry.{Entry}

@@ -1,4 +1,4 @@
--- What the laws of a link and of a listener ask for: the bytes that a link gave begin its input, and no two plans have one number.
+-- Inner: what the laws of a link and of a listener ask for: the bytes that a link gave begin its input, and no two plans have one number.
 use Rattle.std.specs.Prelude.{◌≡◌, ℕ, zero, suc, ◌+◌, ◌≤◌, Bool, IsTrue, List, [], ◌∷◌, ◌++◌, Some, length, drop, take, slice_get}
 use Rattle.std.proofs.Common.{sym, ap, ◌∙◌, add-zero, add-suc, suc-add, zero-add}
 use Rattle.std.proofs.lemmas.List.{take-append-drop, take_all}

@@ -1,4 +1,4 @@
--- What a poll gives.
+-- To be believed: what a poll gives, and how much.
 use Rattle.std.specs.Prelude.{◌<◌, ◌^◌, ◌++◌, List, Option, option_map}
 use Rattle.reg_keys.specs.declared.limits.TheConstants.{DESCRIPTORS}
 use Rattle.reg_keys.specs.declared.opening.Opening.{Opening}

@@ -1,4 +1,4 @@
--- What a poll of a memory net does: it meets its links, raises the words of those that have steps left, and reports just these.
+-- To be believed: what a poll of a memory net does: it meets its links, raises the words of those that have steps left, and reports just these.
 use Rattle.std.specs.Prelude.{◌≡◌, ℕ, ◌+◌, ◌==◌, ◌||◌, ◌⊎◌, Bool, List, [], ◌∷◌, ◌++◌, Option, Some, None, if◌then◌else◌, length, map, nat_lt}
 use Rattle.std.specs.List.{flat_map}
 use Rattle.reg_keys.specs.declared.opening.Opening.{Opening}
@@ -10,11 +10,11 @@ use Rattle.poller.specs.declared.poller.AddOut.{AddOut}
 use Rattle.poller.specs.declared.poller.AddOut.TheVariants as Adds
 use Rattle.poller.specs.Faults.{PollerFaults}
 use Rattle.poller.specs.Polls.{Report}
-use Rattle.poller.specs.Ports.{FeedState}
+use Rattle.poller.specs.LinkSeats.{DeliveryState}
 
 -- an entry of a poller is at its end: its link was found to have left, or all steps were delivered
 abbrev pub is_done : Entry → Bool
-is_done e = nat_lt 0 e.feed.left || (e.feed.delivered == e.feed.limit)
+is_done e = nat_lt 0 e.delivery.left || (e.delivery.delivered == e.delivery.limit)
 
 -- an entry, and what was found where its link notes that it leaves: 0 where it hadn't left
 pub record Meeting : Type 0 where
@@ -23,7 +23,7 @@ pub record Meeting : Type 0 where
 
 -- the entry that one met stays as: its poller looked once more whether the link had left; where it had it is marked so, and else its word was raised by one
 abbrev pub met_as : Entry → ℕ → Entry
-met_as e found = record e { feed = record e.feed { left = found; looks = e.feed.looks + 1; delivered = if found == 0 then e.feed.delivered + 1 else e.feed.delivered } }
+met_as e found = record e { delivery = record e.delivery { left = found; looks = e.delivery.looks + 1; delivered = if found == 0 then e.delivery.delivered + 1 else e.delivery.delivered } }
 
 -- what stays of an entry that was met: one at its end leaves
 abbrev pub stays_as : Meeting → List Entry
@@ -82,9 +82,9 @@ HasNoEntries poller = poller.entries.items ≡ []
 abbrev pub no_faults : PollerFaults
 no_faults = record { links = 0; polls = 0 }
 
--- an add puts the feed that a link or a listener had behind the entries, and changes nothing where that was added before or memory was short
-abbrev pub Adding : Opening → Option FeedState → Option FeedState → List Entry → List Entry → AddOut → Type 0
+-- an add puts the delivery that a link or a listener had behind the entries, and changes nothing where that was added before or memory was short
+abbrev pub Adding : Opening → Option DeliveryState → Option DeliveryState → List Entry → List Entry → AddOut → Type 0
 Adding opening None fed old new result = (result ≡ Adds.Added) × (fed ≡ None) × (new ≡ old)
-Adding opening (Some feed) fed old new Adds.Added = (fed ≡ None) × (new ≡ old ++ record { opening = opening; feed = feed } ∷ [])
-Adding opening (Some feed) fed old new Adds.NoMemory = (fed ≡ Some feed) × (new ≡ old)
-Adding opening (Some feed) fed old new Adds.Failed = ⊥
+Adding opening (Some delivery) fed old new Adds.Added = (fed ≡ None) × (new ≡ old ++ record { opening = opening; delivery = delivery } ∷ [])
+Adding opening (Some delivery) fed old new Adds.NoMemory = (fed ≡ Some delivery) × (new ≡ old)
+Adding opening (Some delivery) fed old new Adds.Failed = ⊥

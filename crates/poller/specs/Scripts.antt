@@ -1,4 +1,4 @@
--- What the scripts of a memory net have.
+-- To be believed: what the scripts of a memory net have.
 use Rattle.std.specs.Prelude.{ℕ, zero, suc, ◌+◌, ◌<◌, ◌^◌, List, [], ◌∷◌, ◌++◌, length, All}
 use Rattle.outside.specs.ListenCauses.{Plan}
 use Rattle.poller.specs.declared.script.Script.{Script}

@@ -1,4 +1,4 @@
-// The sizes of polls and of the memory net, each named once. They are this project's own.
+//! The sizes of polls and of the memory net, each named once. They are this project's own.
 
 /// How many reports one poll gives at most.
 pub const REPORTS: usize = 1024;

@@ -1,44 +1,44 @@
-// A link of a memory net. What it gives and takes is what was delivered of its script.
+//! A link of a memory net. What it gives and takes is what was delivered of its script.
 ghost use Rattle.std.specs.Prelude.{◌≡◌, ◌≤◌, ◌<◌, ◌+◌, ◌-◌, ◌++◌, ◌||◌, ◌↔◌, IsTrue, Some, None, false, true, length, refl, take};
 ghost use Rattle.outside.specs.Causes.{bytes_got, bytes_taken, is_end, GivesWithin, TakesWithin, ReadWaits, WriteWaits};
 ghost use Rattle.outside.specs.Counts.{nothing_counted};
-ghost use Rattle.poller.specs.Courses.{Lays};
+ghost use Rattle.poller.specs.LaidScripts.{Lays};
 ghost use Rattle.poller.specs.Scripts.{allowed_in, pieces_in, steps_at};
 
-use crate::course::{Course, Reach};
-use crate::feed::Feed;
-use crate::port::Port;
+use crate::delivery_seat::DeliverySeat;
+use crate::laid_script::{LaidScript, Reached};
+use crate::link_seat::LinkSeat;
 use outside::{Count, Link, ReadOut, Room, WriteOut, copy_from};
 
 /// A link of a memory net. It tells its bytes and its plan, and never fails.
 #[derive(Drop)]
 pub struct MemLink {
-    port: Port,
-    course: Course,
+    seat: LinkSeat,
+    script: LaidScript,
     given: usize,
     ended: bool,
     room: Room,
     read_waits: Count,
     write_waits: Count,
-    ghost links: { 1 ≤ port.word },
-    ghost laid: { Lays (steps_at port.scripts (port.word - 1)) (length (steps_at port.scripts (port.word - 1))) course.input.items course.reaches.items },
-    ghost over: { IsTrue ended → length (pieces_in (steps_at port.scripts (port.word - 1))) ≤ given },
+    ghost links: { 1 ≤ seat.word },
+    ghost laid: { Lays (steps_at seat.scripts (seat.word - 1)) (length (steps_at seat.scripts (seat.word - 1))) script.input.items script.reached.items },
+    ghost over: { IsTrue ended → length (pieces_in (steps_at seat.scripts (seat.word - 1))) ≤ given },
 }
 
 impl MemLink {
     ghost use Rattle.poller.specs.NetLinks.{IsLinks, IsSameLink, can_take, net_link_of, number_of, script_of, waits_of};
 
-    /// The link of a port, of which nothing was asked yet.
-    pub(crate) fn new(port: Port, course: Course, room: Room) -> MemLink
-        requires links { IsLinks port }
-        requires laid { Lays (script_of port) (length (script_of port)) course.input.items course.reaches.items }
-        ensures port { result.port ≡ port }
-        ensures is { net_link_of result ≡ record { number = number_of port; steps = script_of port; delivered = port.delivered; loads = port.loads; given = 0; ended = false; room = room; feed = port.feed } }
+    /// The link of a seat, of which nothing was asked yet.
+    pub(crate) fn new(seat: LinkSeat, script: LaidScript, room: Room) -> MemLink
+        requires links { IsLinks seat }
+        requires laid { Lays (script_of seat) (length (script_of seat)) script.input.items script.reached.items }
+        ensures seat { result.seat ≡ seat }
+        ensures is { net_link_of result ≡ record { number = number_of seat; steps = script_of seat; delivered = seat.delivered; looks = seat.looks; given = 0; ended = false; room = room; delivery = seat.delivery } }
         ensures waits { waits_of result ≡ nothing_counted }
     {
         MemLink {
-            port,
-            course,
+            seat,
+            script,
             given: 0,
             ended: false,
             room,
@@ -56,53 +56,53 @@ impl MemLink {
 
     /// Whether it was added to a poller.
     pub(crate) fn is_added(&self) -> bool
-        ensures { IsTrue result ↔ (self.now.port.feed ≡ None) }
+        ensures { IsTrue result ↔ (self.now.seat.delivery ≡ None) }
     {
-        self.port.is_added()
+        self.seat.is_added()
     }
 
-    /// Gives its feed to a poller, where no poller has it yet.
-    pub(crate) fn take_feed(&mut self) -> Option<Feed>
-        ensures feed { result ≡ self.old.port.feed }
-        ensures taken { self.new.port ≡ record self.old.port { feed = None } }
+    /// Gives its delivery to a poller, where no poller has it yet.
+    pub(crate) fn take_delivery(&mut self) -> Option<DeliverySeat>
+        ensures delivery { result ≡ self.old.seat.delivery }
+        ensures taken { self.new.seat ≡ record self.old.seat { delivery = None } }
         ensures same { IsSameLink self.old self.new }
     {
-        self.port.take_feed()
+        self.seat.take_delivery()
     }
 
     /// How many steps its script has.
     fn steps(&self) -> usize
-        ensures { result ≡ length (script_of self.now.port) }
+        ensures { result ≡ length (script_of self.now.seat) }
     {
-        self.course.reaches.len() - 1
+        self.script.reached.len() - 1
     }
 
-    /// How many steps were delivered, at one load.
+    /// How many steps were delivered, at one look.
     fn delivered(&mut self) -> usize
         ensures found { result ≡ (net_link_of self.new).delivered }
         ensures later { (net_link_of self.old).delivered ≤ result }
         ensures most { result ≤ length (net_link_of self.new).steps }
-        ensures looked { (net_link_of self.new).loads ≡ (net_link_of self.old).loads + 1 }
-        ensures same { net_link_of self.old ≡ record (net_link_of self.new) { delivered = (net_link_of self.old).delivered; loads = (net_link_of self.old).loads } }
+        ensures looked { (net_link_of self.new).looks ≡ (net_link_of self.old).looks + 1 }
+        ensures same { net_link_of self.old ≡ record (net_link_of self.new) { delivered = (net_link_of self.old).delivered; looks = (net_link_of self.old).looks } }
         ensures waits { waits_of self.new ≡ waits_of self.old }
     {
-        self.port.delivered() as usize
+        self.seat.delivered() as usize
     }
 
     /// How far the script goes once so many steps were delivered.
-    fn reach(&self, delivered: usize) -> Reach
-        requires { delivered ≤ length (script_of self.now.port) }
-        ensures input { result.input ≡ length (pieces_in (take delivered (script_of self.now.port))) }
-        ensures within { result.input ≤ length self.now.course.input.items }
-        ensures allowance { result.allowance ≡ allowed_in (take delivered (script_of self.now.port)) }
+    fn reach(&self, delivered: usize) -> Reached
+        requires { delivered ≤ length (script_of self.now.seat) }
+        ensures input { result.input ≡ length (pieces_in (take delivered (script_of self.now.seat))) }
+        ensures within { result.input ≤ length self.now.script.input.items }
+        ensures allowance { result.allowance ≡ allowed_in (take delivered (script_of self.now.seat)) }
     {
-        self.course.reaches[delivered]
+        self.script.reached[delivered]
     }
 
     /// How many bytes it can take once so many steps were delivered.
     fn can_take(&self, delivered: usize) -> usize
         requires found { delivered ≡ (net_link_of self.now).delivered }
-        requires most { delivered ≤ length (script_of self.now.port) }
+        requires most { delivered ≤ length (script_of self.now.seat) }
         ensures count { result ≡ can_take (net_link_of self.now) }
         ensures room { length (net_link_of self.now).room.stored + result ≤ (net_link_of self.now).room.size }
     {
@@ -136,7 +136,7 @@ impl Link for MemLink {
         let delivered = self.delivered();
         let reach = self.reach(delivered).input;
         if self.given < reach {
-            let n = copy_from(&self.course.input[..reach], self.given, buf);
+            let n = copy_from(&self.script.input[..reach], self.given, buf);
             self.given += n;
             return ReadOut::Got(n);
         }

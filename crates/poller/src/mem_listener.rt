@@ -1,20 +1,20 @@
-// The listener of a memory net, which gives a link for each script, in order.
+//! The listener of a memory net, which gives a link for each script, in order.
 ghost use Rattle.std.specs.Prelude.{◌≡◌, ◌<◌, ◌≤◌, ◌+◌, ◌-◌, ◌^◌, ◌↔◌, IfOk, IsTrue, OnErr, OnOk, None, Some, length};
 ghost use Rattle.outside.specs.Counts.{more_by_one, nothing_counted};
 ghost use Rattle.outside.specs.ListenCauses.{IfAccepted, IsPlannedAt, IsUntouched, accept_waits_after, accepted_after};
 ghost use Rattle.poller.specs.Deliveries.{limits_of};
 ghost use Rattle.poller.specs.NetLinks.{fresh_net_link, net_link_of, told_of, waits_of};
 ghost use Rattle.poller.specs.NetListeners.{AcceptsNet, IsListener, NetListener};
-ghost use Rattle.poller.specs.Ports.{fresh_port};
+ghost use Rattle.poller.specs.LinkSeats.{fresh_link_seat};
 ghost use Rattle.poller.specs.Scripts.{AreScripts, plans_from, room_at, steps_at};
 
-use crate::course::lay;
-use crate::dealer::Dealer;
-use crate::feed::Feed;
+use crate::delivery_seat::DeliverySeat;
+use crate::laid_script::lay_out;
 use crate::limits::ACCEPTS;
+use crate::link_seat::LinkSeat;
 use crate::mem_link::MemLink;
-use crate::port::Port;
 use crate::script::Script;
+use crate::seat_dealer::SeatDealer;
 use outside::{AcceptOut, Count, Link, Listener, Room};
 use std::alloc::{AllocError, Global};
 use std::collections::VecDeque;
@@ -24,8 +24,8 @@ use std::marker::Model;
 #[derive(Drop)]
 pub struct MemListener {
     alloc: Global,
-    port: Port,
-    dealer: Dealer,
+    seat: LinkSeat,
+    dealer: SeatDealer,
     scripts: VecDeque<Script>,
     accepted: Count,
     waits: Count,
@@ -35,36 +35,36 @@ impl Model for MemListener {
     ghost Value = { NetListener };
 
     ghost view = { λ listener. record {
-      table = listener.port.table;
+      table = listener.seat.table;
       scripts = listener.dealer.scripts;
       accepted = listener.accepted;
-      raised = listener.port.delivered;
-      loads = listener.port.loads;
+      raised = listener.seat.delivered;
+      looks = listener.seat.looks;
       waits = listener.waits;
-      feed = listener.port.feed;
+      delivery = listener.seat.delivery;
     } };
 
-    ghost invariant = { λ listener. IsListener listener.port listener.dealer listener.scripts.items listener.accepted.n };
+    ghost invariant = { λ listener. IsListener listener.seat listener.dealer listener.scripts.items listener.accepted.n };
 }
 
 impl MemListener {
-    /// The listener of a net whose words aren't dealt but the first, which is the port's.
+    /// The listener of a net whose words aren't dealt but the first, which is the seat's.
     pub(crate) fn new(
         alloc: Global,
-        port: Port,
-        dealer: Dealer,
+        seat: LinkSeat,
+        dealer: SeatDealer,
         scripts: VecDeque<Script>,
     ) -> MemListener
-        requires { IsListener port dealer scripts.items 0 }
+        requires { IsListener seat dealer scripts.items 0 }
         ensures scripts { result.scripts ≡ scripts.items }
         ensures accepted { result.accepted.n ≡ 0 }
-        ensures raised { result.raised ≡ port.delivered }
+        ensures raised { result.raised ≡ seat.delivered }
         ensures waits { result.waits.n ≡ 0 }
-        ensures feed { result.feed ≡ port.feed }
+        ensures delivery { result.delivery ≡ seat.delivery }
     {
         MemListener {
             alloc,
-            port,
+            seat,
             dealer,
             scripts,
             accepted: Count::new(),
@@ -74,36 +74,36 @@ impl MemListener {
 
     /// Whether it was added to a poller.
     pub(crate) fn is_added(&self) -> bool
-        ensures { IsTrue result ↔ (self.now.feed ≡ None) }
+        ensures { IsTrue result ↔ (self.now.delivery ≡ None) }
     {
-        self.port.is_added()
+        self.seat.is_added()
     }
 
-    /// Gives its feed to a poller, where no poller has it yet.
-    pub(crate) fn take_feed(&mut self) -> Option<Feed>
-        ensures feed { result ≡ self.old.feed }
-        ensures taken { self.new ≡ record self.old { feed = None } }
+    /// Gives its delivery to a poller, where no poller has it yet.
+    pub(crate) fn take_delivery(&mut self) -> Option<DeliverySeat>
+        ensures delivery { result ≡ self.old.delivery }
+        ensures taken { self.new ≡ record self.old { delivery = None } }
     {
-        self.port.take_feed()
+        self.seat.take_delivery()
     }
 }
 
 /// The link of the next word, which is that of a script.
-fn next_link(alloc: Global, dealer: &mut Dealer, script: &Script) -> Result<MemLink, AllocError>
+fn next_link(alloc: Global, dealer: &mut SeatDealer, script: &Script) -> Result<MemLink, AllocError>
     requires next { (1 ≤ dealer.old.next) × (dealer.old.next < length (limits_of dealer.old.scripts)) }
     requires steps { script.now.steps.items ≡ steps_at dealer.old.scripts (dealer.old.next - 1) }
     requires room { script.now.room ≡ room_at dealer.old.scripts (dealer.old.next - 1) }
     requires short { length script.now.steps.items < 2 ^ 32 }
     ensures link { IfOk result (λ link. net_link_of link ≡ fresh_net_link dealer.old.table dealer.old.scripts (dealer.old.next - 1)) }
-    ensures port { IfOk result (λ link. link.port ≡ fresh_port dealer.old) }
+    ensures seat { IfOk result (λ link. link.seat ≡ fresh_link_seat dealer.old) }
     ensures waits { IfOk result (λ link. waits_of link ≡ nothing_counted) }
     ensures next { OnOk result (dealer.new ≡ record dealer.old { next = dealer.old.next + 1 }) }
     ensures none { OnErr result (dealer.new ≡ dealer.old) }
 {
-    let course = lay(alloc, &script.steps)?;
+    let laid = lay_out(alloc, &script.steps)?;
     let room = Room::new(alloc, script.room)?;
-    let port = dealer.deal(script.steps.len() as u64)?;
-    Ok(MemLink::new(port, course, room))
+    let seat = dealer.deal(script.steps.len() as u64)?;
+    Ok(MemLink::new(seat, laid, room))
 }
 
 impl Listener for MemListener {
@@ -127,7 +127,7 @@ impl Listener for MemListener {
         ensures counted { self.new.accepted.n ≡ accepted_after result self.old.accepted.n }
         ensures waited { self.new.waits.n ≡ accept_waits_after result self.old.waits.n }
     {
-        let allowed = ACCEPTS * (self.port.delivered() + 1);
+        let allowed = ACCEPTS * (self.seat.delivered() + 1);
         if self.accepted.now() >= allowed {
             self.waits.rise();
             return AcceptOut::NotYet;

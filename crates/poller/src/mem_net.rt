@@ -1,27 +1,28 @@
-// A net in memory, this project's own model of edge reports.
+//! A net in memory, this project's own model of edge reports.
 ghost use Rattle.std.specs.Prelude.{◌≡◌, ◌≤◌, [], IfOk, All, None, Some, vec_len};
 ghost use Rattle.poller.specs.NetListeners.{IsFreshListener};
 ghost use Rattle.poller.specs.Rounds.{HasNoEntries};
 ghost use Rattle.poller.specs.Scripts.{AreScripts};
 
-use crate::dealer::Dealer;
 use crate::limits::ACCEPTS;
 use crate::mem_listener::MemListener;
 use crate::mem_poller::MemPoller;
 use crate::net::Net;
 use crate::script::Script;
+use crate::seat_dealer::SeatDealer;
 use std::alloc::{AllocError, Global};
 use std::collections::VecDeque;
 use std::sync::Arc;
 
-/// A net in memory: a listener that gives a link for each script, and pollers that deliver the scripts' steps.
+/// A net in memory: a listener that gives a link for each script, and pollers that deliver the scripts'
+/// steps.
 ///
 /// A poll delivers one step of each link that was added to the poller, and reports it.
 pub struct MemNet;
 
 impl MemNet {
-    /// A net of scripts, with so many pollers. There are 1 to 64 pollers and fewer than 2^32 scripts, each with
-    /// fewer than 2^32 steps.
+    /// A net of scripts, with so many pollers. There are 1 to 64 pollers and fewer than 2^32 scripts, each
+    /// with fewer than 2^32 steps.
     pub fn new(
         alloc: Global,
         scripts: Vec<Script>,
@@ -34,9 +35,9 @@ impl MemNet {
         ensures pollers { IfOk result (λ net. All HasNoEntries net.1.items) }
     {
         let (net, seat) = Net::open(alloc, &scripts)?;
-        let mut dealer = Dealer::new(Arc::new(alloc, net)?, seat);
-        let port = dealer.deal((scripts.len() as u64).saturating_sub(1) / ACCEPTS)?;
-        let listener = MemListener::new(alloc, port, dealer, VecDeque::from_vec(scripts));
+        let mut dealer = SeatDealer::new(Arc::new(alloc, net)?, seat);
+        let seat = dealer.deal((scripts.len() as u64).saturating_sub(1) / ACCEPTS)?;
+        let listener = MemListener::new(alloc, seat, dealer, VecDeque::from_vec(scripts));
         Ok((listener, fresh_pollers(alloc, pollers)?))
     }
 }

@@ -1,8 +1,8 @@
-// A poller of a memory net. It delivers the steps of its links' scripts, one for each report.
+//! A poller of a memory net. It delivers the steps of its links' scripts, one for each report.
 ghost use Rattle.std.specs.Prelude.{◌≡◌, ◌<◌, [], length};
 ghost use Rattle.poller.specs.Polls.{HasToken};
 
-use crate::feed::Feed;
+use crate::delivery_seat::DeliverySeat;
 use crate::limits::REPORTS;
 use crate::mem_link::MemLink;
 use crate::mem_listener::MemListener;
@@ -17,7 +17,7 @@ use std::sync::Wait;
 #[derive(Drop)]
 struct Entry {
     opening: Opening,
-    feed: Feed,
+    delivery: DeliverySeat,
 }
 
 /// A poller of a memory net. It never fails, and a poll allocates nothing.
@@ -29,19 +29,19 @@ pub struct MemPoller {
 impl Entry {
     ghost use Rattle.poller.specs.Rounds.{HasMet};
 
-    /// Meets the entry, and says whether it stays: one that is at its end doesn't. Where its link hasn't left, its
-    /// word is raised and it is reported.
+    /// Meets the entry, and says whether it stays: one that is at its end doesn't. Where its link hasn't
+    /// left, its word is raised and it is reported.
     fn meet(&mut self, out: &mut Reports) -> bool
         requires { length out.old < REPORTS }
         ensures { HasMet self.old result self.new out.old out.new }
     {
-        if self.feed.is_done() {
+        if self.delivery.is_done() {
             return false;
         }
-        if self.feed.has_left() {
+        if self.delivery.has_left() {
             return true;
         }
-        self.feed.deliver();
+        self.delivery.deliver();
         out.push(self.opening, Dirs::Both);
         true
     }
@@ -104,7 +104,7 @@ impl Poller for MemPoller {
     fn add(&mut self, opening: Opening, link: &mut MemLink) -> AddOut
         requires { HasToken opening }
         ensures link { IsSameLink link.old link.new }
-        ensures adds { Adding opening link.old.port.feed link.new.port.feed self.old.entries.items self.new.entries.items result }
+        ensures adds { Adding opening link.old.seat.delivery link.new.seat.delivery self.old.entries.items self.new.entries.items result }
     {
         if link.is_added() {
             return AddOut::Added;
@@ -112,16 +112,16 @@ impl Poller for MemPoller {
         if self.entries.reserve(1).is_err() {
             return AddOut::NoMemory;
         }
-        if let Some(feed) = link.take_feed() {
-            self.entries.push_back_reserved(Entry { opening, feed });
+        if let Some(delivery) = link.take_delivery() {
+            self.entries.push_back_reserved(Entry { opening, delivery });
         }
         AddOut::Added
     }
 
     fn add_listener(&mut self, opening: Opening, listener: &mut MemListener) -> AddOut
         requires { HasToken opening }
-        ensures listener { listener.new ≡ record listener.old { feed = listener.new.feed } }
-        ensures adds { Adding opening listener.old.feed listener.new.feed self.old.entries.items self.new.entries.items result }
+        ensures listener { listener.new ≡ record listener.old { delivery = listener.new.delivery } }
+        ensures adds { Adding opening listener.old.delivery listener.new.delivery self.old.entries.items self.new.entries.items result }
     {
         if listener.is_added() {
             return AddOut::Added;
@@ -129,8 +129,8 @@ impl Poller for MemPoller {
         if self.entries.reserve(1).is_err() {
             return AddOut::NoMemory;
         }
-        if let Some(feed) = listener.take_feed() {
-            self.entries.push_back_reserved(Entry { opening, feed });
+        if let Some(delivery) = listener.take_delivery() {
+            self.entries.push_back_reserved(Entry { opening, delivery });
         }
         AddOut::Added
     }

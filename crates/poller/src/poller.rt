@@ -1,4 +1,5 @@
-// What each dispatcher polls.
+//! What each dispatcher polls. What contracts know of a poller is one record, `meaning`: its faults, the
+//! reports that it tells, and the relation `polls`, which nothing but a poll can bring about.
 ghost use Rattle.std.specs.Prelude.{◌≡◌, ℕ, [], List};
 ghost use Rattle.poller.specs.declared.poller.PollOut.TheVariants.{Failed};
 ghost use Rattle.poller.specs.Faults.{AddFaults, ListenFaults, PollFaults};
@@ -30,7 +31,11 @@ pub enum PollOut {
     Failed,
 }
 
-/// A source of reports. Each dispatcher has one of its own. A link leaves it when it is dropped.
+/// A source of reports. Each dispatcher has one of its own.
+///
+/// A link or a listener that is dropped is to be reported no more. No contract says so, since a drop has
+/// none: where an opening that was closed is reported all the same, its stripe answers that the report is
+/// stale.
 pub trait Poller {
     /// What is added.
     type Link: Link + Drop;
@@ -55,7 +60,8 @@ pub trait Poller {
         ensures faulted { ListenFaults result (meaning.faults self.old) (meaning.faults self.new) }
         ensures polled { meaning.polled self.new ≡ meaning.polled self.old };
 
-    /// Puts what may be ready into `out`, which is empty. Where `idle` is false it doesn't wait for readiness.
+    /// Puts what may be ready into `out`, which is empty, at most `REPORTS` pairs. Where `idle` is false it
+    /// doesn't wait for readiness.
     fn poll<R: Wait>(&mut self, rt: &R, idle: bool, out: &mut Reports) -> PollOut
         requires { out.old ≡ [] }
         ensures alone { meaning.polls self.old idle result out.new self.new }

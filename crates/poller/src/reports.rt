@@ -1,4 +1,4 @@
-// What a poll gives: a ring of reports, whose room is taken once.
+//! What a poll gives: a ring of reports, whose room is taken once.
 ghost use Rattle.std.specs.Prelude.{◌≡◌, ◌<◌, ◌≤◌, ◌↔◌, ◌∷◌, ◌++◌, [], if◌then◌else◌, length, IfOk, IsTrue, MatchOption};
 
 use crate::limits::REPORTS;

@@ -1,4 +1,4 @@
-// What a link of a memory net will do, step by step.
+//! What a link of a memory net will do, step by step.
 
 /// One step of a script: what comes to be there when it is delivered.
 #[derive(Drop)]

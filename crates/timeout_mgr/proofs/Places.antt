@@ -40,11 +40,13 @@ module _ (k m : ℕ) (d : WatchEntry) (past : WatchLog) where
     | no s ↦ slot_is s
     | yes s ↦ elim (ℕ_discrete (name_of d).number m) [
       | no n ↦ number_is s n
-      | yes n ↦ here_is s n ∙ subst (λ (x : ℕ × ℕ). after d (status x.0 x.1 past) ≡ status x.0 x.1 past) (λ i. (s i, n i)) e
+      | yes n ↦ here_is s n
+          ∙ subst (λ (x : ℕ × ℕ). after d (status x.0 x.1 past) ≡ status x.0 x.1 past) (λ i. (s i, n i)) e
     ]
   ]
 
-module _ (log : WatchLog) (k n : ℕ) (h : maths.Option (Option Opening)) (u : ℕ) (c : SlotState) (o : Opening) (a : At log k n h u c o) where
+module _ (log : WatchLog) (k n : ℕ) (h : maths.Option (Option Opening)) (u : ℕ) (c : SlotState) (o : Opening)
+    (a : At log k n h u c o) where
   pub still_at : (d : WatchEntry) → after d (before d log) ≡ before d log → At (d ∷ log) k n h u c o
   still_at d e = record {
     word = a.word;
@@ -65,8 +67,10 @@ module _ (log : WatchLog) (k n : ℕ) (h : maths.Option (Option Opening)) (u : �
     home = a.home;
   }
 
-  pub moves : (d : WatchEntry) → (name_of d).slot ≡ k → (name_of d).number ≡ u → (c' : SlotState) (o' : Opening) (n' : ℕ) (h' : maths.Option (Option Opening))
-      → n' ≡ 8 * u + code_of c' → u + used c' ≤ 2 ^ 40 → after d (status_at c o) ≡ status_at c' o' → Home c' o' h' → At (d ∷ log) k n' h' u c' o'
+  pub moves : (d : WatchEntry) → (name_of d).slot ≡ k → (name_of d).number ≡ u
+      → (c' : SlotState) (o' : Opening) (n' : ℕ) (h' : maths.Option (Option Opening))
+      → n' ≡ 8 * u + code_of c' → u + used c' ≤ 2 ^ 40 → after d (status_at c o) ≡ status_at c' o' → Home c' o' h'
+      → At (d ∷ log) k n' h' u c' o'
   moves d s x c' o' n' h' w small e home = record {
     word = w;
     small = small;
@@ -76,8 +80,10 @@ module _ (log : WatchLog) (k n : ℕ) (h : maths.Option (Option Opening)) (u : �
     home = home;
   }
 
-  pub restage : (c' : SlotState) (n' : ℕ) (h' : maths.Option (Option Opening)) → n' ≡ 8 * u + code_of c' → u + used c' ≤ 2 ^ 40 → status_at c o ≡ status_at c' o → Home c' o h' → At log k n' h' u c' o
-  restage c' n' h' w small e home = record { word = w; small = small; past = a.past; now = a.now ∙ e; future = a.future; home = home }
+  pub restage : (c' : SlotState) (n' : ℕ) (h' : maths.Option (Option Opening)) → n' ≡ 8 * u + code_of c'
+      → u + used c' ≤ 2 ^ 40 → status_at c o ≡ status_at c' o → Home c' o h' → At log k n' h' u c' o
+  restage c' n' h' w small e home =
+      record { word = w; small = small; past = a.past; now = a.now ∙ e; future = a.future; home = home }
 
 code_below : (c : SlotState) → code_of c < 5
 code_below Free = omega arith
@@ -98,23 +104,33 @@ same_state c d e = sym (state_back c) ∙ (ap state_at e ∙ state_back d)
 
 pub same_word : (u v : ℕ) (c d : SlotState) → 8 * u + code_of c ≡ 8 * v + code_of d → (u ≡ v) × (c ≡ d)
 same_word u v c d e = let x = code_below c in let y = code_below d in let p : ℕ = code_of c in let q : ℕ = code_of d in
-    let x' : p < 5 = x in let y' : q < 5 = y in let e' : 8 * u + p ≡ 8 * v + q = e in let r : p ≡ q = omega (arith, x', y', e') in (omega (arith, x', y', e'), same_state c d r)
+    let x' : p < 5 = x in
+    let y' : q < 5 = y in
+    let e' : 8 * u + p ≡ 8 * v + q = e in
+    let r : p ≡ q = omega (arith, x', y', e') in
+    (omega (arith, x', y', e'), same_state c d r)
 
 -- what the word says of the slot
-pub known : (log : WatchLog) (k n : ℕ) (h : maths.Option (Option Opening)) → IsPlace log k n h → (u : ℕ) (c : SlotState) → n ≡ 8 * u + code_of c → (o : Opening) × At log k n h u c o
-known log k n h p u c e = let t = same_word p.0 u p.1 c (sym p.3.word ∙ e) in (p.2, subst (λ (x : ℕ × SlotState). At log k n h x.0 x.1 p.2) (λ i. (t.0 i, t.1 i)) p.3)
+pub known : (log : WatchLog) (k n : ℕ) (h : maths.Option (Option Opening)) → IsPlace log k n h
+    → (u : ℕ) (c : SlotState) → n ≡ 8 * u + code_of c → (o : Opening) × At log k n h u c o
+known log k n h p u c e = let t = same_word p.0 u p.1 c (sym p.3.word ∙ e) in
+    (p.2, subst (λ (x : ℕ × SlotState). At log k n h x.0 x.1 p.2) (λ i. (t.0 i, t.1 i)) p.3)
 
 -- where the word doesn't show that a watch lives, it doesn't
-dead_now : (log : WatchLog) (k n : ℕ) (h : maths.Option (Option Opening)) (u : ℕ) (c : SlotState) (o : Opening) → At log k n h u c o → n ≢ 8 * u + 2 → n ≢ 8 * u + 3 → is_alive (status k u log) ≡ false
+dead_now : (log : WatchLog) (k n : ℕ) (h : maths.Option (Option Opening)) (u : ℕ) (c : SlotState) (o : Opening)
+    → At log k n h u c o → n ≢ 8 * u + 2 → n ≢ 8 * u + 3 → is_alive (status k u log) ≡ false
 dead_now log k n h u Free o a x y = ap is_alive a.now
 dead_now log k n h u Making o a x y = ap is_alive a.now
 dead_now log k n h u Active o a x y = absurd (x a.word)
 dead_now log k n h u Inactive o a x y = absurd (y a.word)
 dead_now log k n h u Leaving o a x y = ap is_alive a.now
 
-pub dead : (log : WatchLog) (k n : ℕ) (h : maths.Option (Option Opening)) → IsPlace log k n h → (m : ℕ) → n ≢ 8 * m + 2 → n ≢ 8 * m + 3 → is_alive (status k m log) ≡ false
+pub dead : (log : WatchLog) (k n : ℕ) (h : maths.Option (Option Opening)) → IsPlace log k n h → (m : ℕ) → n ≢ 8 * m + 2
+    → n ≢ 8 * m + 3 → is_alive (status k m log) ≡ false
 dead log k n h p m x y = elim (ℕ_discrete m p.0) [
-  | yes e ↦ ap (λ (z : ℕ). is_alive (status k z log)) e ∙ dead_now log k n h p.0 p.1 p.2 p.3 (λ z. x (z ∙ ap (λ (w : ℕ). 8 * w + 2) (sym e))) (λ z. y (z ∙ ap (λ (w : ℕ). 8 * w + 3) (sym e)))
+  | yes e ↦ ap (λ (z : ℕ). is_alive (status k z log)) e
+      ∙ dead_now log k n h p.0 p.1 p.2 p.3 (λ z. x (z ∙ ap (λ (w : ℕ). 8 * w + 2) (sym e)))
+      (λ z. y (z ∙ ap (λ (w : ℕ). 8 * w + 3) (sym e)))
   | no ne ↦ elim (dec_le m p.0) [
     | yes l ↦ ap is_alive (p.3.past m (omega (arith, l, ne)))
     | no g ↦ ap is_alive (p.3.future m (lt_of_not-le g))
@@ -139,7 +155,9 @@ cancel_still x a (Lives o b) e = absurd (omega (arith, ap one e))
     one false = 0
 cancel_still x a Ended e = refl
 
-pub next_use : (log : WatchLog) (k n : ℕ) (h : maths.Option (Option Opening)) (u : ℕ) (o : Opening) → At log k n h u Leaving o → (n' : ℕ) (h' : maths.Option (Option Opening)) → n' ≡ 8 * (u + 1) → h' ≡ maths.some None → At log k n' h' (u + 1) Free o
+pub next_use : (log : WatchLog) (k n : ℕ) (h : maths.Option (Option Opening)) (u : ℕ) (o : Opening)
+    → At log k n h u Leaving o → (n' : ℕ) (h' : maths.Option (Option Opening)) → n' ≡ 8 * (u + 1)
+    → h' ≡ maths.some None → At log k n' h' (u + 1) Free o
 next_use log k n h u o a n' h' w home = record {
   word = omega (arith, w);
   small = let sm = a.small in omega (arith, sm);

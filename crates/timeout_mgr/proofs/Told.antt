@@ -24,9 +24,18 @@ use Rattle.timeout_mgr.specs.OneSlot.{Stays, ShowsOne, SweepsAt, Answers}
 use Rattle.timeout_mgr.proofs.Keeps.{entries_append, calls_append}
 
 pub goes_told : (items : List Shown) (hd : Holding) (v w : TimeView) → Tells items hd v w → GoesOn items v w
-goes_told items hd v w t = record { kept = t.kept; onward = (entries_in items ++ t.later, t.seen ∙ sym (append_assoc (entries_in items) t.later v.seen)) }
+goes_told items hd v w t =
+    record {
+      kept = t.kept;
+      onward = (
+        entries_in items ++ t.later,
+        t.seen
+            ∙ sym (append_assoc (entries_in items) t.later v.seen),
+      );
+    }
 
-pub stays_told : (items : List Shown) (hd : Holding) (v w : TimeView) → entries_in items ≡ [] → calls_in items ≡ [] → Tells items hd v w → Stays items v w
+pub stays_told : (items : List Shown) (hd : Holding) (v w : TimeView) → entries_in items ≡ [] → calls_in items ≡ []
+    → Tells items hd v w → Stays items v w
 stays_told items hd v w none ends t = record { goes = goes_told items hd v w t; entry = none; call = ends }
 
 pub sound_told : (items : List Shown) (hd : Holding) (v w : TimeView) → Tells items hd v w → IsSound w
@@ -46,7 +55,11 @@ decided d hd v w t = record {
 pub goes_on : (a b : List Shown) (v u w : TimeView) → GoesOn a v u → GoesOn b u w → GoesOn (b ++ a) v w
 goes_on a b v u w x y = record {
   kept = y.kept ∙ (ap (λ (l : List Shown). b ++ l) x.kept ∙ sym (append_assoc b a v.kept));
-  onward = (y.onward.0 ++ x.onward.0, y.onward.1 ∙ (ap (λ (l : WatchLog). y.onward.0 ++ l) x.onward.1 ∙ sym (append_assoc y.onward.0 x.onward.0 v.seen)));
+  onward = (
+    y.onward.0 ++ x.onward.0,
+    y.onward.1
+        ∙ (ap (λ (l : WatchLog). y.onward.0 ++ l) x.onward.1 ∙ sym (append_assoc y.onward.0 x.onward.0 v.seen)),
+  );
 }
 
 pub none_both : (a b : List Shown) → entries_in a ≡ [] → entries_in b ≡ [] → entries_in (b ++ a) ≡ []
@@ -56,31 +69,45 @@ pub ends_both : (a b : List Shown) → calls_in a ≡ [] → calls_in b ≡ [] �
 ends_both a b x y = calls_append b a ∙ (ap (λ (l : List TimeCall). l ++ calls_in b) x ∙ y)
 
 pub stays_on : (a b : List Shown) (v u w : TimeView) → Stays a v u → Stays b u w → Stays (b ++ a) v w
-stays_on a b v u w x y = record { goes = goes_on a b v u w x.goes y.goes; entry = none_both a b x.entry y.entry; call = ends_both a b x.call y.call }
+stays_on a b v u w x y =
+    record {
+      goes = goes_on a b v u w x.goes y.goes;
+      entry = none_both a b x.entry y.entry;
+      call =
+          ends_both a b x.call y.call;
+    }
 
 -- steps that end no call leave the calls as they were
-pub same_calls : (items : List Shown) (v w : TimeView) → GoesOn items v w → calls_in items ≡ [] → calls_of w ≡ calls_of v
-same_calls items v w g none = ap calls_in g.kept ∙ (calls_append items v.kept ∙ (ap (λ (l : List TimeCall). calls_of v ++ l) none ∙ append-nil (calls_of v)))
+pub same_calls : (items : List Shown) (v w : TimeView) → GoesOn items v w → calls_in items ≡ []
+    → calls_of w ≡ calls_of v
+same_calls items v w g none = ap calls_in g.kept
+    ∙ (calls_append items v.kept ∙ (ap (λ (l : List TimeCall). calls_of v ++ l) none ∙ append-nil (calls_of v)))
 
 pub then_decides : (a : List Shown) (d : WatchEntry) (v u w : TimeView) → Stays a v u → Decides d u w → Decides d v w
 then_decides a d v u w x y = record {
   items = y.items ++ a;
   goes = goes_on a y.items v u w x.goes y.goes;
-  entry = entries_append y.items a ∙ (ap (λ (l : WatchLog). entries_in y.items ++ l) x.entry ∙ (ap (λ (l : WatchLog). l ++ []) y.entry));
+  entry = entries_append y.items a
+      ∙ (ap (λ (l : WatchLog). entries_in y.items ++ l) x.entry ∙ (ap (λ (l : WatchLog). l ++ []) y.entry));
   call = y.call ∙ ap (λ (l : List TimeCall). l ++ decided_call d) (same_calls a v u x.goes x.call);
   later = y.later ++ x.goes.onward.0;
-  newest = y.newest ∙ ap (λ (l : WatchLog). d ∷ l) (ap (λ (l : WatchLog). y.later ++ l) x.goes.onward.1 ∙ sym (append_assoc y.later x.goes.onward.0 v.seen));
+  newest = y.newest ∙ ap (λ (l : WatchLog). d ∷ l) (ap (λ (l : WatchLog). y.later ++ l) x.goes.onward.1
+      ∙ sym (append_assoc y.later x.goes.onward.0 v.seen));
   sound = y.sound;
 }
 
 pub answered : (c : TimeCall) (hd : Holding) (v w : TimeView) → Tells (Answered c ∷ []) hd v w → Answers c v w
-answered c hd v w t = record { goes = goes_told (Answered c ∷ []) hd v w t; sound = sound_told (Answered c ∷ []) hd v w t }
+answered c hd v w t =
+    record { goes = goes_told (Answered c ∷ []) hd v w t; sound = sound_told (Answered c ∷ []) hd v w t }
 
 -- a call that ends so
-pub ended_so : (c : TimeCall) (items : List Shown) (v u w : TimeView) → GoesOn items v u → calls_in items ≡ [] → Answers c u w → calls_of w ≡ calls_of v ++ c ∷ []
-ended_so c items v u w g none a = ap calls_in a.goes.kept ∙ ap (λ (l : List TimeCall). l ++ c ∷ []) (same_calls items v u g none)
+pub ended_so : (c : TimeCall) (items : List Shown) (v u w : TimeView) → GoesOn items v u → calls_in items ≡ []
+    → Answers c u w → calls_of w ≡ calls_of v ++ c ∷ []
+ended_so c items v u w g none a = ap calls_in a.goes.kept
+    ∙ ap (λ (l : List TimeCall). l ++ c ∷ []) (same_calls items v u g none)
 
-pub then_answers : (c : TimeCall) (items : List Shown) (v u w : TimeView) → Stays items v u → Answers c u w → DecidesNothing c items v w
+pub then_answers : (c : TimeCall) (items : List Shown) (v u w : TimeView) → Stays items v u → Answers c u w
+    → DecidesNothing c items v w
 then_answers c items v u w x a = record {
   goes = goes_on items (Answered c ∷ []) v u w x.goes a.goes;
   entry = x.entry;
@@ -107,43 +134,75 @@ module _ (u w k : ℕ) (m : M) (n : ℕ) (m' : M) (is : u ≡ w) where
   abbrev try : ℕ → Type 0
   try x = tickle_try x (step 0 k 0 0 maths.none) m n m'
 
-  pub look_active : tickle_look u (step 0 k 0 0 maths.none) m n m' → n ≡ 8 * w + 2 → Decides (Tickled (name k w) true) m.0 m'.0
-  look_active t e = ⊎_elim (λ x. decided (Tickled (name k w) true) m.0.hand m.0 m'.0 x.1.0) (λ y. ⊎_elim (λ x. let z = x.0 in absurd (omega (arith, e, z))) (λ x. absurd (x.0 e)) y) (subst look is t)
+  pub look_active : tickle_look u (step 0 k 0 0 maths.none) m n m' → n ≡ 8 * w + 2
+      → Decides (Tickled (name k w) true) m.0 m'.0
+  look_active t e =
+      ⊎_elim (λ x. decided (Tickled (name k w) true) m.0.hand m.0 m'.0 x.1.0) (λ y. ⊎_elim (λ x. let z = x.0 in
+      absurd (omega (arith, e, z))) (λ x. absurd (x.0 e)) y) (subst look is t)
 
-  pub look_gone : tickle_look u (step 0 k 0 0 maths.none) m n m' → n ≢ 8 * w + 2 → n ≢ 8 * w + 3 → Decides (Tickled (name k w) false) m.0 m'.0
-  look_gone t a b = ⊎_elim (λ x. absurd (a x.0)) (λ y. ⊎_elim (λ x. absurd (b x.0)) (λ x. decided (Tickled (name k w) false) m.0.hand m.0 m'.0 x.2.0) y) (subst look is t)
+  pub look_gone : tickle_look u (step 0 k 0 0 maths.none) m n m' → n ≢ 8 * w + 2 → n ≢ 8 * w + 3
+      → Decides (Tickled (name k w) false) m.0 m'.0
+  look_gone t a b =
+      ⊎_elim (λ x. absurd (a x.0))
+      (λ y. ⊎_elim (λ x. absurd (b x.0)) (λ x. decided (Tickled (name k w) false) m.0.hand m.0 m'.0 x.2.0) y)
+      (subst look is t)
 
   pub look_inactive : tickle_look u (step 0 k 0 0 maths.none) m n m' → n ≡ 8 * w + 3 → Stays [] m.0 m'.0
-  look_inactive t e = ⊎_elim (λ x. let z = x.0 in absurd (omega (arith, e, z))) (λ y. ⊎_elim (λ x. stays_told [] m.0.hand m.0 m'.0 refl refl x.1.0) (λ x. absurd (x.1 e)) y) (subst look is t)
+  look_inactive t e = ⊎_elim (λ x. let z = x.0 in
+      absurd (omega (arith, e, z)))
+      (λ y. ⊎_elim (λ x. stays_told [] m.0.hand m.0 m'.0 refl refl x.1.0) (λ x. absurd (x.1 e)) y) (subst look is t)
 
-  pub try_alive : tickle_try u (step 0 k 0 0 maths.none) m n m' → (n ≡ 8 * w + 3) ⊎ (n ≡ 8 * w + 2) → Decides (Tickled (name k w) true) m.0 m'.0
-  try_alive t e = ⊎_elim (λ x. decided (Tickled (name k w) true) m.0.hand m.0 m'.0 x.1.0) (λ x. absurd (⊎_elim (λ z. x.1 z) (λ z. x.0 z) e)) (subst try is t)
+  pub try_alive : tickle_try u (step 0 k 0 0 maths.none) m n m' → (n ≡ 8 * w + 3) ⊎ (n ≡ 8 * w + 2)
+      → Decides (Tickled (name k w) true) m.0 m'.0
+  try_alive t e =
+      ⊎_elim (λ x. decided (Tickled (name k w) true) m.0.hand m.0 m'.0 x.1.0)
+      (λ x. absurd (⊎_elim (λ z. x.1 z) (λ z. x.0 z) e)) (subst try is t)
 
-  pub try_gone : tickle_try u (step 0 k 0 0 maths.none) m n m' → n ≢ 8 * w + 3 → n ≢ 8 * w + 2 → Decides (Tickled (name k w) false) m.0 m'.0
-  try_gone t a b = ⊎_elim (λ x. absurd (⊎_elim a b x.0)) (λ x. decided (Tickled (name k w) false) m.0.hand m.0 m'.0 x.2.0) (subst try is t)
+  pub try_gone : tickle_try u (step 0 k 0 0 maths.none) m n m' → n ≢ 8 * w + 3 → n ≢ 8 * w + 2
+      → Decides (Tickled (name k w) false) m.0 m'.0
+  try_gone t a b =
+      ⊎_elim (λ x. absurd (⊎_elim a b x.0)) (λ x. decided (Tickled (name k w) false) m.0.hand m.0 m'.0 x.2.0)
+      (subst try is t)
 
 module _ (u w k old new : ℕ) (m : M) (n : ℕ) (m' : M) (is : u ≡ w) where
   abbrev leave : ℕ → Type 0
   leave x = cancel_try x (step 0 k old new maths.none) m n m'
 
-  pub left_hit : cancel_try u (step 0 k old new maths.none) m n m' → n ≡ old → (old ≡ 8 * w + 2) ⊎ (old ≡ 8 * w + 3) → (o : Opening) × Takes (Decided (Cancelled (name k w) true) ∷ []) k new (Some o) m m'
-  left_hit t e l = ⊎_elim (λ x. x.1) (λ y. ⊎_elim (λ x. absurd (x.0 e)) (λ x. absurd (⊎_elim (λ z. x.0 (e ∙ z)) (λ z. x.1 (e ∙ z)) l)) y) (subst leave is t)
+  pub left_hit : cancel_try u (step 0 k old new maths.none) m n m' → n ≡ old → (old ≡ 8 * w + 2) ⊎ (old ≡ 8 * w + 3)
+      → (o : Opening) × Takes (Decided (Cancelled (name k w) true) ∷ []) k new (Some o) m m'
+  left_hit t e l =
+      ⊎_elim (λ x. x.1) (λ y. ⊎_elim (λ x. absurd (x.0 e))
+      (λ x. absurd (⊎_elim (λ z. x.0 (e ∙ z)) (λ z. x.1 (e ∙ z)) l)) y) (subst leave is t)
 
-  pub left_lives : cancel_try u (step 0 k old new maths.none) m n m' → n ≢ old → (n ≡ 8 * w + 2) ⊎ (n ≡ 8 * w + 3) → Stays (Tried k old n ∷ []) m.0 m'.0
-  left_lives t e l = ⊎_elim (λ x. absurd (e x.0)) (λ y. ⊎_elim (λ x. stays_told (Tried k old n ∷ []) m.0.hand m.0 m'.0 refl refl x.2.0) (λ x. absurd (⊎_elim (λ z. x.0 z) (λ z. x.1 z) l)) y) (subst leave is t)
+  pub left_lives : cancel_try u (step 0 k old new maths.none) m n m' → n ≢ old → (n ≡ 8 * w + 2) ⊎ (n ≡ 8 * w + 3)
+      → Stays (Tried k old n ∷ []) m.0 m'.0
+  left_lives t e l =
+      ⊎_elim (λ x. absurd (e x.0))
+      (λ y. ⊎_elim (λ x. stays_told (Tried k old n ∷ []) m.0.hand m.0 m'.0 refl refl x.2.0)
+      (λ x. absurd (⊎_elim (λ z. x.0 z) (λ z. x.1 z) l)) y) (subst leave is t)
 
-  pub left_gone : cancel_try u (step 0 k old new maths.none) m n m' → n ≢ old → n ≢ 8 * w + 2 → n ≢ 8 * w + 3 → Decides (Cancelled (name k w) false) m.0 m'.0
-  left_gone t e a b = ⊎_elim (λ x. absurd (e x.0)) (λ y. ⊎_elim (λ x. absurd (⊎_elim a b x.1)) (λ x. decided (Cancelled (name k w) false) m.0.hand m.0 m'.0 x.2.0) y) (subst leave is t)
+  pub left_gone : cancel_try u (step 0 k old new maths.none) m n m' → n ≢ old → n ≢ 8 * w + 2 → n ≢ 8 * w + 3
+      → Decides (Cancelled (name k w) false) m.0 m'.0
+  left_gone t e a b =
+      ⊎_elim (λ x. absurd (e x.0))
+      (λ y. ⊎_elim (λ x. absurd (⊎_elim a b x.1))
+      (λ x. decided (Cancelled (name k w) false) m.0.hand m.0 m'.0 x.2.0) y) (subst leave is t)
 
 module _ (u w k : ℕ) (m : M) (n : ℕ) (m' : M) (is : u ≡ w) where
   abbrev asks : ℕ → Type 0
   asks x = cancel_look x (step 0 k 0 0 maths.none) m n m'
 
-  pub ask_gone : cancel_look u (step 0 k 0 0 maths.none) m n m' → n ≢ 8 * w + 2 → n ≢ 8 * w + 3 → Decides (Cancelled (name k w) false) m.0 m'.0
-  ask_gone t a b = ⊎_elim (λ x. absurd (⊎_elim a b x.0)) (λ x. decided (Cancelled (name k w) false) m.0.hand m.0 m'.0 x.2.0) (subst asks is t)
+  pub ask_gone : cancel_look u (step 0 k 0 0 maths.none) m n m' → n ≢ 8 * w + 2 → n ≢ 8 * w + 3
+      → Decides (Cancelled (name k w) false) m.0 m'.0
+  ask_gone t a b =
+      ⊎_elim (λ x. absurd (⊎_elim a b x.0)) (λ x. decided (Cancelled (name k w) false) m.0.hand m.0 m'.0 x.2.0)
+      (subst asks is t)
 
-  pub ask_lives : cancel_look u (step 0 k 0 0 maths.none) m n m' → (n ≡ 8 * w + 2) ⊎ (n ≡ 8 * w + 3) → Stays (Saw k n ∷ []) m.0 m'.0
-  ask_lives t l = ⊎_elim (λ x. stays_told (Saw k n ∷ []) m.0.hand m.0 m'.0 refl refl x.1.0) (λ x. absurd (⊎_elim (λ z. x.0 z) (λ z. x.1 z) l)) (subst asks is t)
+  pub ask_lives : cancel_look u (step 0 k 0 0 maths.none) m n m' → (n ≡ 8 * w + 2) ⊎ (n ≡ 8 * w + 3)
+      → Stays (Saw k n ∷ []) m.0 m'.0
+  ask_lives t l =
+      ⊎_elim (λ x. stays_told (Saw k n ∷ []) m.0.hand m.0 m'.0 refl refl x.1.0)
+      (λ x. absurd (⊎_elim (λ z. x.0 z) (λ z. x.1 z) l)) (subst asks is t)
 
 pub front : {A : Type 0} (l xs : List (ℕ × A)) (y : ℕ × A) → l ≡ y ∷ xs → l ≡ y ∷ rest l
 front l xs y e = e ∙ ap (λ (z : List (ℕ × _)). y ∷ z) (ap rest (sym e))
@@ -169,43 +228,81 @@ pub none_taken : (first : ℕ) → AreTaken first 0 []
 unfolding AreTaken
 none_taken first = refl
 
-taken_suc : (first k : ℕ) (older newer : List Shown) → AreTaken first k older → IsTakenAt ((first + k) % 4096) newer → AreTaken first (suc k) (newer ++ older)
+taken_suc : (first k : ℕ) (older newer : List Shown) → AreTaken first k older → IsTakenAt ((first + k) % 4096) newer
+    → AreTaken first (suc k) (newer ++ older)
 unfolding AreTaken
 taken_suc first k older newer a t = (newer, older, refl, a, t)
 
-pub next_taken : (first k : ℕ) (older newer : List Shown) → AreTaken first k older → IsTakenAt ((first + k) % 4096) newer → AreTaken first (k + 1) (newer ++ older)
-next_taken first k older newer a t = subst (λ (n : ℕ). AreTaken first n (newer ++ older)) (omega arith) (taken_suc first k older newer a t)
+pub next_taken : (first k : ℕ) (older newer : List Shown) → AreTaken first k older
+    → IsTakenAt ((first + k) % 4096) newer → AreTaken first (k + 1) (newer ++ older)
+next_taken first k older newer a t =
+    subst (λ (n : ℕ). AreTaken first n (newer ++ older)) (omega arith) (taken_suc first k older newer a t)
 
 pub one_told : (item : Shown) (hd : Holding) (v w : TimeView) → Tells (item ∷ []) hd v w → ShowsOne item v w
-one_told item hd v w t = record { goes = goes_told (item ∷ []) hd v w t; later = t.later; newest = t.seen; sound = record { legal = t.legal; own = t.own } }
+one_told item hd v w t =
+    record {
+      goes = goes_told (item ∷ []) hd v w t;
+      later = t.later;
+      newest = t.seen;
+      sound =
+          record { legal = t.legal; own = t.own };
+    }
 
 pub then_one : (item : Shown) (v u w : TimeView) → Stays [] v u → ShowsOne item u w → ShowsOne item v w
 then_one item v u w x y = record {
   goes = goes_on [] (item ∷ []) v u w x.goes y.goes;
   later = y.later ++ x.goes.onward.0;
-  newest = y.newest ∙ ap (λ (l : WatchLog). entries_in (item ∷ []) ++ l) (ap (λ (l : WatchLog). y.later ++ l) x.goes.onward.1 ∙ sym (append_assoc y.later x.goes.onward.0 v.seen));
+  newest = y.newest
+      ∙ ap (λ (l : WatchLog). entries_in (item ∷ []) ++ l) (ap (λ (l : WatchLog). y.later ++ l) x.goes.onward.1
+      ∙ sym (append_assoc y.later x.goes.onward.0 v.seen));
   sound = y.sound;
 }
 
 pub freed_one : (item : Shown) (v u w : TimeView) → ShowsOne item v u → w ≡ record u { hand = Idle } → ShowsOne item v w
 freed_one item v u w x e = subst (ShowsOne item v) (sym e)
-    (record { goes = record { kept = x.goes.kept; onward = x.goes.onward }; later = x.later; newest = x.newest; sound = record { legal = x.sound.legal; own = x.sound.own } })
+    (record {
+      goes = record { kept = x.goes.kept; onward = x.goes.onward };
+      later = x.later;
+      newest = x.newest;
+      sound =
+          record { legal = x.sound.legal; own = x.sound.own };
+    })
 
 module _ (u k old : ℕ) (m : M) (n : ℕ) (m' : M) where
   pub aged : age_try u (step 0 k old 0 maths.none) m n m' → SweepsAt k m.0 None m'.0
-  aged t = ⊎_elim (λ x. (Decided (Swept (name k u) None), inl (u, refl, refl), one_told (Decided (Swept (name k u) None)) m.0.hand m.0 m'.0 x.1.0))
-      (λ x. (Missed k old n, inr (inr (inr (old, n, x.0, refl, refl))), one_told (Missed k old n) m.0.hand m.0 m'.0 x.1.0)) t
+  aged t =
+      ⊎_elim (λ x. (
+        Decided (Swept (name k u) None),
+        inl (u, refl, refl),
+        one_told (Decided (Swept (name k u) None)) m.0.hand m.0 m'.0 x.1.0,
+      ))
+      (λ x. (
+        Missed k old n,
+        inr (inr (inr (old, n, x.0, refl, refl))),
+        one_told (Missed k old n) m.0.hand m.0 m'.0 x.1.0,
+      )) t
 
 module _ (u k old new : ℕ) (m : M) (n : ℕ) (m' : M) where
-  pub exp_hit : expire_try u (step 0 k old new maths.none) m n m' → n ≡ old → (o : Opening) × Takes (Decided (Swept (name k u) (Some o)) ∷ []) k new (Some o) m m'
+  pub exp_hit : expire_try u (step 0 k old new maths.none) m n m' → n ≡ old
+      → (o : Opening) × Takes (Decided (Swept (name k u) (Some o)) ∷ []) k new (Some o) m m'
   exp_hit t e = ⊎_elim (λ x. x.1) (λ x. absurd (x.0 e)) t
 
   pub exp_miss : expire_try u (step 0 k old new maths.none) m n m' → n ≢ old → SweepsAt k m.0 None m'.0
-  exp_miss t e = ⊎_elim (λ x. absurd (e x.0)) (λ x. (Missed k old n, inr (inr (inr (old, n, x.0, refl, refl))), one_told (Missed k old n) m.0.hand m.0 m'.0 x.1.0)) t
+  exp_miss t e =
+      ⊎_elim (λ x. absurd (e x.0)) (λ x. (
+        Missed k old n,
+        inr (inr (inr (old, n, x.0, refl, refl))),
+        one_told (Missed k old n) m.0.hand m.0 m'.0 x.1.0,
+      )) t
 
 module _ (k : ℕ) (m : M) (n : ℕ) (m' : M) where
-  pub look_live : sweep_look (step 0 k 0 0 maths.none) m n m' → (u : ℕ) → (n ≡ 8 * u + 2) ⊎ (n ≡ 8 * u + 3) → Stays [] m.0 m'.0 × (u < 2 ^ 40)
-  look_live t u e = ⊎_elim (λ x. let lt = x.0.1 in (stays_told [] m.0.hand m.0 m'.0 refl refl x.1.0, ⊎_elim (λ a. ⊎_elim (λ b. omega (arith, a, b, lt)) (λ b. omega (arith, a, b, lt)) x.0.2) (λ a. ⊎_elim (λ b. omega (arith, a, b, lt)) (λ b. omega (arith, a, b, lt)) x.0.2) e))
+  pub look_live : sweep_look (step 0 k 0 0 maths.none) m n m' → (u : ℕ) → (n ≡ 8 * u + 2) ⊎ (n ≡ 8 * u + 3)
+      → Stays [] m.0 m'.0 × (u < 2 ^ 40)
+  look_live t u e = ⊎_elim (λ x. let lt = x.0.1 in (
+    stays_told [] m.0.hand m.0 m'.0 refl refl x.1.0,
+    ⊎_elim (λ a. ⊎_elim (λ b. omega (arith, a, b, lt)) (λ b. omega (arith, a, b, lt)) x.0.2)
+        (λ a. ⊎_elim (λ b. omega (arith, a, b, lt)) (λ b. omega (arith, a, b, lt)) x.0.2) e,
+  ))
       (λ x. absurd (⊎_elim (λ a. (x.0 u).0 a) (λ a. (x.0 u).1 a) e)) t
 
   pub look_dead : sweep_look (step 0 k 0 0 maths.none) m n m' → n % 8 ≢ 2 → n % 8 ≢ 3 → SweepsAt k m.0 None m'.0
@@ -216,34 +313,43 @@ abbrev value_of : Option Opening → List (ℕ × Option Opening) → Option Ope
 value_of x [] = x
 value_of x (y ∷ ys) = y.1
 
-pub same_value : (k : ℕ) (l xs ys : List (ℕ × Option Opening)) (a b : Option Opening) → l ≡ (k, a) ∷ xs → l ≡ (k, b) ∷ ys → a ≡ b
+pub same_value : (k : ℕ) (l xs ys : List (ℕ × Option Opening)) (a b : Option Opening) → l ≡ (k, a) ∷ xs
+    → l ≡ (k, b) ∷ ys → a ≡ b
 same_value k l xs ys a b e f = ap (value_of None) (sym e ∙ f)
 
-pub then_sweeps : (k : ℕ) (given : Option Opening) (v u w : TimeView) → Stays [] v u → SweepsAt k u given w → SweepsAt k v given w
+pub then_sweeps : (k : ℕ) (given : Option Opening) (v u w : TimeView) → Stays [] v u → SweepsAt k u given w
+    → SweepsAt k v given w
 then_sweeps k given v u w s t = (t.0, t.1, then_one t.0 v u w s t.2)
 
 pub no_round : IsRound 0 [] []
 unfolding IsRound
 no_round = (refl, refl)
 
-round_suc : (k : ℕ) (item : Shown) (older : List Shown) (given : Option Opening) (out : List Opening) → IsRound k older out → SweptSlot k given item → IsRound (suc k) (item ∷ older) (out ++ list_of given)
+round_suc : (k : ℕ) (item : Shown) (older : List Shown) (given : Option Opening) (out : List Opening)
+    → IsRound k older out → SweptSlot k given item → IsRound (suc k) (item ∷ older) (out ++ list_of given)
 unfolding IsRound
 round_suc k item older given out r i = (item, older, given, out, refl, refl, i, r)
 
-pub next_round : (k : ℕ) (item : Shown) (older : List Shown) (given : Option Opening) (out : List Opening) → IsRound k older out → SweptSlot k given item → IsRound (k + 1) (item ∷ older) (out ++ list_of given)
-next_round k item older given out r i = subst (λ (n : ℕ). IsRound n (item ∷ older) (out ++ list_of given)) (omega arith) (round_suc k item older given out r i)
+pub next_round : (k : ℕ) (item : Shown) (older : List Shown) (given : Option Opening) (out : List Opening)
+    → IsRound k older out → SweptSlot k given item → IsRound (k + 1) (item ∷ older) (out ++ list_of given)
+next_round k item older given out r i =
+    subst (λ (n : ℕ). IsRound n (item ∷ older) (out ++ list_of given)) (omega arith)
+    (round_suc k item older given out r i)
 
 pub goes_here : (v : TimeView) → GoesOn [] v v
 goes_here v = record { kept = refl; onward = ([], refl) }
 
 -- what a sweep shows of one slot ends no call
 ends_none : (k : ℕ) (given : Option Opening) (item : Shown) → SweptSlot k given item → call_of item ≡ []
-ends_none k given item t = ⊎_elim (λ x. ap call_of x.1) (λ y. ⊎_elim (λ x. ap call_of x.2) (λ z. ⊎_elim (λ x. ap call_of x.2) (λ x. ap call_of x.3) z) y) t
+ends_none k given item t =
+    ⊎_elim (λ x. ap call_of x.1)
+    (λ y. ⊎_elim (λ x. ap call_of x.2) (λ z. ⊎_elim (λ x. ap call_of x.2) (λ x. ap call_of x.3) z) y) t
 
 abbrev pub Rounds : TimeView → ℕ → List Opening → TimeView → Type 0
 Rounds v k out w = (items : List Shown) × GoesOn items v w × IsRound k items out × (calls_in items ≡ [])
 
-pub swept_more : (k : ℕ) (out next : List Opening) (given : Option Opening) (v0 v w : TimeView) → Rounds v0 k out v → SweepsAt k v given w → next ≡ out ++ list_of given → length out ≤ k
+pub swept_more : (k : ℕ) (out next : List Opening) (given : Option Opening) (v0 v w : TimeView) → Rounds v0 k out v
+    → SweepsAt k v given w → next ≡ out ++ list_of given → length out ≤ k
     → Rounds v0 (k + 1) next w × (length next ≤ k + 1)
 swept_more k out next given v0 v w r s e few = (
   (
@@ -252,7 +358,8 @@ swept_more k out next given v0 v w r s e few = (
     subst (IsRound (k + 1) (s.0 ∷ r.0)) (sym e) (next_round k s.0 r.0 given out r.2 s.1),
     ap (λ (l : List TimeCall). l ++ call_of s.0) r.3 ∙ ends_none k given s.0 s.1,
   ),
-  (let a = ap length e in let b = length-append out (list_of given) in let c = at_most given in omega (arith, a, b, c, few)),
+  (let a = ap length e in let b = length-append out (list_of given) in let c = at_most given in
+      omega (arith, a, b, c, few)),
 )
   where
     at_most : (x : Option Opening) → length (list_of x) ≤ 1
@@ -260,9 +367,14 @@ swept_more k out next given v0 v w r s e few = (
     at_most (Some o) = omega arith
 
 pub round_here : (v : TimeView) (out : List Opening) → out ≡ [] → Rounds v 0 out v × (length out ≤ 0)
-round_here v out e = (([], goes_here v, subst (IsRound 0 []) (sym e) no_round, refl), (let a = ap length e in omega (arith, a)))
+round_here v out e = (
+  ([], goes_here v, subst (IsRound 0 []) (sym e) no_round, refl),
+  (let a = ap length e in
+      omega (arith, a)),
+)
 
-pub swept : (v u w : TimeView) (out : List Opening) (k : ℕ) → k ≡ 4096 → Rounds v k out u → Answers (Sweep out) u w → HasSwept v out w
+pub swept : (v u w : TimeView) (out : List Opening) (k : ℕ) → k ≡ 4096 → Rounds v k out u → Answers (Sweep out) u w
+    → HasSwept v out w
 swept v u w out k e t a = record {
   items = t.0;
   round = subst (λ n. IsRound n t.0 out) e t.2;

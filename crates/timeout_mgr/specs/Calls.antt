@@ -60,17 +60,20 @@ pub record DecidesNothing (c : TimeCall) (items : List Shown) (v w : TimeView) :
 
 -- what was shown of one slot: a word that shows it taken, or a free word and then another word, which one only has after a use
 abbrev pub IsTakenAt : ℕ → List Shown → Type 0
-IsTakenAt k items = ((n : ℕ) × (items ≡ Saw k n ∷ []) × IsTaken n) ⊎ ((n : ℕ) × (uses : ℕ) × (n ≢ free_word uses) × (items ≡ Saw k n ∷ Saw k (free_word uses) ∷ []))
+IsTakenAt k items = ((n : ℕ) × (items ≡ Saw k n ∷ []) × IsTaken n)
+    ⊎ ((n : ℕ) × (uses : ℕ) × (n ≢ free_word uses) × (items ≡ Saw k n ∷ Saw k (free_word uses) ∷ []))
 
 -- the same of as many slots in a row, from the first one on and round the table, each once, the last one first
 unfoldable pub AreTaken : ℕ → ℕ → List Shown → Type 0
 AreTaken first zero items = items ≡ []
-AreTaken first (suc count) items = (newer : List Shown) × (older : List Shown) × (items ≡ newer ++ older) × AreTaken first count older × IsTakenAt ((first + count) % 4096) newer
+AreTaken first (suc count) items = (newer : List Shown) × (older : List Shown) × (items ≡ newer ++ older)
+    × AreTaken first count older × IsTakenAt ((first + count) % 4096) newer
 
 -- an add: it made its watch, or looked at each of the 4,096 slots once and saw it taken
 abbrev pub HasAdded : Opening → TimeView → AddWatch → TimeView → Type 0
 HasAdded o v (Add.Added x) w = Decides (Entry.Added (name_of_watch x) o) v w
-HasAdded o v Add.Full w = (first : ℕ) × (items : List Shown) × AreTaken first 4096 items × DecidesNothing (Call.Add o AddAnswer.Full) items v w
+HasAdded o v Add.Full w = (first : ℕ) × (items : List Shown) × AreTaken first 4096 items
+    × DecidesNothing (Call.Add o AddAnswer.Full) items v w
 
 -- a tickle: whether the watch lives
 abbrev pub HasTickled : WatchName → TimeView → TickleOut → TimeView → Type 0
@@ -83,21 +86,28 @@ pub record WereInTheWay (x : WatchName) (items : List Shown) : Type 0 where
   pub second : ℕ
   pub third : ℕ
   pub fourth : ℕ
-  pub items_are : items ≡ Tried x.slot third fourth ∷ Tried x.slot second third ∷ Tried x.slot first second ∷ Saw x.slot first ∷ []
+  pub items_are : items
+      ≡ Tried x.slot third fourth ∷ Tried x.slot second third ∷ Tried x.slot first second ∷ Saw x.slot first ∷ []
   pub others : (second ≢ first) × (third ≢ second) × (fourth ≢ third)
-  pub alive : ShowsAlive x.number first × ShowsAlive x.number second × ShowsAlive x.number third × ShowsAlive x.number fourth
+  pub alive : ShowsAlive x.number first × ShowsAlive x.number second × ShowsAlive x.number third
+      × ShowsAlive x.number fourth
 
 -- a cancel: whether the watch lived until then, or the watch itself where others were in the way
 abbrev pub HasCancelled : Watch → TimeView → CancelOut → TimeView → Type 0
 HasCancelled x v Cancel.Cancelled w = Decides (Entry.Cancelled (name_of_watch x) true) v w
 HasCancelled x v Cancel.Gone w = Decides (Entry.Cancelled (name_of_watch x) false) v w
-HasCancelled x v (Cancel.Again y) w = (y ≡ x) × ((items : List Shown) × WereInTheWay (name_of_watch x) items × DecidesNothing (Call.Cancel (name_of_watch x) CancelAnswer.Again) items v w)
+HasCancelled x v (Cancel.Again y) w = (y ≡ x)
+    × ((items : List Shown) × WereInTheWay (name_of_watch x) items
+    × DecidesNothing (Call.Cancel (name_of_watch x) CancelAnswer.Again) items v w)
 
 -- What a sweep shows of one slot, with the opening where it gave it: its watch aged, its watch ended and its opening was given, a load found no watch that lives, or an exchange found another word than the load before it
 abbrev pub SweptSlot : ℕ → Option Opening → Shown → Type 0
-SweptSlot k given item = ((number : ℕ) × (item ≡ Decided (Entry.Swept (record { slot = k; number = number }) None)) × (given ≡ None))
-    ⊎ ((number : ℕ) × (o : Opening) × (item ≡ Decided (Entry.Swept (record { slot = k; number = number }) (Some o))) × (given ≡ Some o))
-    ⊎ ((n : ℕ) × ((number : ℕ) → (n ≢ active_word number) × (n ≢ inactive_word number)) × (item ≡ Passed k n) × (given ≡ None))
+SweptSlot k given item = ((number : ℕ) × (item ≡ Decided (Entry.Swept (record { slot = k; number = number }) None))
+    × (given ≡ None))
+    ⊎ ((number : ℕ) × (o : Opening) × (item ≡ Decided (Entry.Swept (record { slot = k; number = number }) (Some o)))
+    × (given ≡ Some o))
+    ⊎ ((n : ℕ) × ((number : ℕ) → (n ≢ active_word number) × (n ≢ inactive_word number)) × (item ≡ Passed k n)
+    × (given ≡ None))
     ⊎ ((n : ℕ) × (m : ℕ) × (m ≢ n) × (item ≡ Missed k n m) × (given ≡ None))
 
 -- the opening that was given, if any

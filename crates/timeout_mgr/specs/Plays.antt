@@ -38,11 +38,13 @@ joined_look st m n m' = Shows [] m m'
 
 -- an exchange by an add from free to making
 abbrev pub take_try : Step (Option Opening) → M → ℕ → M → Type 0
-take_try st m n m' = ((n ≡ st.first) × Takes [] st.word st.second None m m') ⊎ ((n ≢ st.first) × Shows (Saw st.word n ∷ []) m m')
+take_try st m n m' = ((n ≡ st.first) × Takes [] st.word st.second None m m')
+    ⊎ ((n ≢ st.first) × Shows (Saw st.word n ∷ []) m m')
 
 -- a store by the pass that has the slot in its hand: the watch is added
 abbrev pub added : Step (Option Opening) → M → ℕ → M → Type 0
-added st m n m' = (u : ℕ) (o : Opening) → st.first ≡ active_word u → m.1 ≡ (st.word, Some o) ∷ rest m.1 → Tells (Decided (Added (name st.word u) o) ∷ []) Idle m.0 m'.0 × (m'.1 ≡ rest m.1)
+added st m n m' = (u : ℕ) (o : Opening) → st.first ≡ active_word u → m.1 ≡ (st.word, Some o) ∷ rest m.1
+    → Tells (Decided (Added (name st.word u) o) ∷ []) Idle m.0 m'.0 × (m'.1 ≡ rest m.1)
 
 -- a store by the pass that has the slot in its hand: it is free again
 abbrev pub freed : Step (Option Opening) → M → ℕ → M → Type 0
@@ -50,33 +52,43 @@ freed st m n m' = (m'.0 ≡ record m.0 { hand = Idle }) × (m'.1 ≡ rest m.1)
 
 -- a load decides a tickle unless it finds the watch's own use inactive
 abbrev pub tickle_look : ℕ → Step (Option Opening) → M → ℕ → M → Type 0
-tickle_look u st m n m' = ((n ≡ active_word u) × Shows (Decided (Tickled (name st.word u) true) ∷ []) m m') ⊎ ((n ≡ inactive_word u) × Shows [] m m') ⊎ ((n ≢ active_word u) × (n ≢ inactive_word u) × Shows (Decided (Tickled (name st.word u) false) ∷ []) m m')
+tickle_look u st m n m' = ((n ≡ active_word u) × Shows (Decided (Tickled (name st.word u) true) ∷ []) m m')
+    ⊎ ((n ≡ inactive_word u) × Shows [] m m')
+    ⊎ ((n ≢ active_word u) × (n ≢ inactive_word u) × Shows (Decided (Tickled (name st.word u) false) ∷ []) m m')
 
 -- an exchange from inactive to active decides it
 abbrev pub tickle_try : ℕ → Step (Option Opening) → M → ℕ → M → Type 0
-tickle_try u st m n m' = (((n ≡ inactive_word u) ⊎ (n ≡ active_word u)) × Shows (Decided (Tickled (name st.word u) true) ∷ []) m m') ⊎ ((n ≢ active_word u) × (n ≢ inactive_word u) × Shows (Decided (Tickled (name st.word u) false) ∷ []) m m')
+tickle_try u st m n m' = (((n ≡ inactive_word u) ⊎ (n ≡ active_word u))
+    × Shows (Decided (Tickled (name st.word u) true) ∷ []) m m')
+    ⊎ ((n ≢ active_word u) × (n ≢ inactive_word u) × Shows (Decided (Tickled (name st.word u) false) ∷ []) m m')
 
 -- a load decides a cancel where the watch doesn't live
 abbrev pub cancel_look : ℕ → Step (Option Opening) → M → ℕ → M → Type 0
-cancel_look u st m n m' = (((n ≡ active_word u) ⊎ (n ≡ inactive_word u)) × Shows (Saw st.word n ∷ []) m m') ⊎ ((n ≢ active_word u) × (n ≢ inactive_word u) × Shows (Decided (Cancelled (name st.word u) false) ∷ []) m m')
+cancel_look u st m n m' = (((n ≡ active_word u) ⊎ (n ≡ inactive_word u)) × Shows (Saw st.word n ∷ []) m m')
+    ⊎ ((n ≢ active_word u) × (n ≢ inactive_word u) × Shows (Decided (Cancelled (name st.word u) false) ∷ []) m m')
 
 -- an exchange to leaving decides it, unless it finds another word in which the watch lives
 abbrev pub cancel_try : ℕ → Step (Option Opening) → M → ℕ → M → Type 0
-cancel_try u st m n m' = ((n ≡ st.first) × ((o : Opening) × Takes (Decided (Cancelled (name st.word u) true) ∷ []) st.word st.second (Some o) m m'))
+cancel_try u st m n m' = ((n ≡ st.first)
+    × ((o : Opening) × Takes (Decided (Cancelled (name st.word u) true) ∷ []) st.word st.second (Some o) m m'))
     ⊎ ((n ≢ st.first) × ((n ≡ active_word u) ⊎ (n ≡ inactive_word u)) × Shows (Tried st.word st.first n ∷ []) m m')
     ⊎ ((n ≢ active_word u) × (n ≢ inactive_word u) × Shows (Decided (Cancelled (name st.word u) false) ∷ []) m m')
 
 -- a load by a sweep decides where it finds neither active nor inactive
 abbrev pub sweep_look : Step (Option Opening) → M → ℕ → M → Type 0
-sweep_look st m n m' = (((u : ℕ) × (u < 2 ^ 40) × ((n ≡ active_word u) ⊎ (n ≡ inactive_word u))) × Shows [] m m') ⊎ (((u : ℕ) → (n ≢ active_word u) × (n ≢ inactive_word u)) × Shows (Passed st.word n ∷ []) m m')
+sweep_look st m n m' = (((u : ℕ) × (u < 2 ^ 40) × ((n ≡ active_word u) ⊎ (n ≡ inactive_word u))) × Shows [] m m')
+    ⊎ (((u : ℕ) → (n ≢ active_word u) × (n ≢ inactive_word u)) × Shows (Passed st.word n ∷ []) m m')
 
 -- an exchange by a sweep from active to inactive
 abbrev pub age_try : ℕ → Step (Option Opening) → M → ℕ → M → Type 0
-age_try u st m n m' = ((n ≡ st.first) × Shows (Decided (Swept (name st.word u) None) ∷ []) m m') ⊎ ((n ≢ st.first) × Shows (Missed st.word st.first n ∷ []) m m')
+age_try u st m n m' = ((n ≡ st.first) × Shows (Decided (Swept (name st.word u) None) ∷ []) m m')
+    ⊎ ((n ≢ st.first) × Shows (Missed st.word st.first n ∷ []) m m')
 
 -- an exchange by a sweep from inactive to leaving takes the opening
 abbrev pub expire_try : ℕ → Step (Option Opening) → M → ℕ → M → Type 0
-expire_try u st m n m' = ((n ≡ st.first) × ((o : Opening) × Takes (Decided (Swept (name st.word u) (Some o)) ∷ []) st.word st.second (Some o) m m')) ⊎ ((n ≢ st.first) × Shows (Missed st.word st.first n ∷ []) m m')
+expire_try u st m n m' = ((n ≡ st.first)
+    × ((o : Opening) × Takes (Decided (Swept (name st.word u) (Some o)) ∷ []) st.word st.second (Some o) m m'))
+    ⊎ ((n ≢ st.first) × Shows (Missed st.word st.first n ∷ []) m m')
 
 -- a load that ends a call with this answer
 abbrev pub answers : TimeCall → Step (Option Opening) → M → ℕ → M → Type 0

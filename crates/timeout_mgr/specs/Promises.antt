@@ -29,6 +29,14 @@ pub record EndsOnce (log : WatchLog) : Type 0 where
   pub added : (slot number : ℕ) → total (adds slot number) log ≤ 1
   pub ended : (slot number : ℕ) → total (ends slot number) log ≤ total (adds slot number) log
 
+-- what an entry weighs by the opening that it gave, if any
+abbrev pub gives : (Opening → ℕ) → WatchEntry → ℕ
+gives f (Added x o) = 0
+gives f (Tickled x alive) = 0
+gives f (Cancelled x alive) = 0
+gives f (Swept x None) = 0
+gives f (Swept x (Some o)) = f o
+
 -- the entry shows that its watch doesn't live
 abbrev pub IsGone : WatchEntry → Type 0
 IsGone (Added x o) = ⊥
@@ -61,4 +69,5 @@ is_given (Some o) = true
 
 -- among these items are such as show this slot taken
 abbrev pub ShowsTaken : ℕ → List Shown → Type 0
-ShowsTaken k items = (newer : List Shown) × (part : List Shown) × (older : List Shown) × (items ≡ newer ++ (part ++ older)) × IsTakenAt k part
+ShowsTaken k items = (newer : List Shown) × (part : List Shown) × (older : List Shown)
+    × (items ≡ newer ++ (part ++ older)) × IsTakenAt k part

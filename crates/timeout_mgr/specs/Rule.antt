@@ -41,7 +41,8 @@ Home Inactive o h = h ≡ maths.some (Some o)
 Home Leaving o h = Unit {0}
 
 -- The slot k, whose word is n, is at its use u, in the state c, for the opening o: the watches of earlier uses have ended, those of later ones are no one's yet, and the slot holds what its state calls for
-pub record At (log : WatchLog) (k n : ℕ) (h : maths.Option (Option Opening)) (u : ℕ) (c : SlotState) (o : Opening) : Type 0 where
+pub record At (log : WatchLog) (k n : ℕ) (h : maths.Option (Option Opening)) (u : ℕ) (c : SlotState)
+    (o : Opening) : Type 0 where
   pub word : n ≡ 8 * u + code_of c
   pub small : u + used c ≤ 2 ^ 40
   pub past : (m : ℕ) → m < u → status k m log ≡ Ended
@@ -68,10 +69,12 @@ pub record IsKept (s : State (Option Opening) TimeView) : Type 0 where
   pub log : WatchLog
   pub legal : IsWatchHistory log
   pub long : length s.words ≡ length s.homes
-  pub places : (k n : ℕ) (h : maths.Option (Option Opening)) → get_elem? s.words k ≡ maths.some n → get_elem? s.homes k ≡ maths.some h → IsPlace log k n h
+  pub places : (k n : ℕ) (h : maths.Option (Option Opening)) → get_elem? s.words k ≡ maths.some n
+      → get_elem? s.homes k ≡ maths.some h → IsPlace log k n h
   pub seen : (j : ℕ) (v : TimeView) → get_elem? s.views j ≡ maths.some v → IsPastOf v.seen log × IsPastOf v.told log
   pub hands : (j : ℕ) (v : TimeView) → get_elem? s.views j ≡ maths.some v → HasLeft s.words v.hand
-  pub apart : (i j : ℕ) (v w : TimeView) → i ≢ j → get_elem? s.views i ≡ maths.some v → get_elem? s.views j ≡ maths.some w → Apart v.hand w.hand
+  pub apart : (i j : ℕ) (v w : TimeView) → i ≢ j → get_elem? s.views i ≡ maths.some v
+      → get_elem? s.views j ≡ maths.some w → Apart v.hand w.hand
   pub sums : (f : WatchEntry → ℕ) → total (λ v. total f (own_entries v)) s.views ≡ total f log
 
 -- what a pass knows that took in another one

@@ -23,7 +23,8 @@ is_of slot number x = (x.slot == slot) && (x.number == number)
 -- the entries of the watch with this slot and this number, the newest first
 abbrev pub watch_entries : ℕ → ℕ → WatchLog → List WatchEntry
 watch_entries slot number [] = []
-watch_entries slot number (d ∷ past) = (if is_of slot number (name_of d) then d ∷ watch_entries slot number past else watch_entries slot number past)
+watch_entries slot number (d ∷ past) =
+    (if is_of slot number (name_of d) then d ∷ watch_entries slot number past else watch_entries slot number past)
 
 -- how it stands with a watch: it is no one's yet, or it lives, for an opening, and its last entry is a sweep or isn't, or it has ended
 pub data Status : Type 0 where

@@ -7,8 +7,9 @@ ghost use Rattle.timeout_mgr.specs.declared.view.WatchName.{WatchName};
 ghost use Rattle.timeout_mgr.specs.declared.view.WatchEntry.TheVariants.{Added, Tickled, Cancelled, Swept};
 ghost use Rattle.timeout_mgr.specs.declared.view.Shown.{Shown};
 ghost use Rattle.timeout_mgr.specs.Watches.{WatchLog, watch_entries, Ended, status, IsWatchHistory};
-ghost use Rattle.timeout_mgr.specs.Calls.{AreTaken};
-ghost use Rattle.timeout_mgr.specs.Promises.{adds, EndsOnce, WasUnborn, StaysEnded, last_is_sweep, is_given, ShowsTaken};
+ghost use Rattle.timeout_mgr.specs.Passes.{entries_in};
+ghost use Rattle.timeout_mgr.specs.Calls.{AreTaken, IsRound};
+ghost use Rattle.timeout_mgr.specs.Promises.{adds, gives, EndsOnce, WasUnborn, StaysEnded, last_is_sweep, is_given, ShowsTaken};
 
 /// A watch is given at most once: it is added at most once, and ends at most once.
 pub fn watches_end_once()
@@ -47,6 +48,12 @@ pub fn sweeps_give_after_a_sweep()
     ensures { (x : WatchName) (given : Option Opening) (past : WatchLog)
         → IsWatchHistory (Swept x given ∷ past)
         → is_given given ≡ last_is_sweep (watch_entries x.slot x.number past) }
+{}
+
+/// The openings that a sweep answers with are those that its entries gave, whatever an opening weighs.
+pub fn sweeps_answer_what_they_gave()
+    ensures { (f : Opening → ℕ) (slots : ℕ) (items : List Shown) (out : List Opening)
+        → IsRound slots items out → total f out ≡ total (gives f) (entries_in items) }
 {}
 
 /// Where an add answers that the table is full, it was shown of each slot that it is taken.

@@ -23,8 +23,8 @@ mod word;
 pub use expired::Expired;
 pub use laws::{
     added_watches_were_unborn, ended_watches_stay_ended, full_tables_show_each_slot,
-    gone_watches_have_ended, sweeps_give_after_a_sweep, watches_end_once,
-    watches_keep_their_openings,
+    gone_watches_have_ended, sweeps_answer_what_they_gave, sweeps_give_after_a_sweep,
+    watches_end_once, watches_keep_their_openings,
 };
 pub use limits::{SLOTS, USES};
 pub use rule::Words;

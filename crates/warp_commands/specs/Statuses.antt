@@ -1,4 +1,4 @@
--- What each end of a command is called, by number and in words.
+-- To be believed: what each end of a command is called, by number and in words.
 use Rattle.std.specs.Prelude.{◌≡◌, ℕ, ◌≤◌, ◌⊎◌, List, [], ◌++◌, option_map, codes}
 use Rattle.outside.specs.Counts.{Rises}
 use Rattle.outside.specs.SinkCauses.{SinkTold}

@@ -1,4 +1,4 @@
--- What the words of a command line mean.
+-- To be believed: what the words of a command line mean.
 use Rattle.std.specs.Prelude.{ℕ, ◌&&◌, List, [], ◌∷◌, length, Result, Ok, Err, codes, bytes_eq, nat_lt, if◌then◌else◌}
 use Rattle.warp_commands.specs.declared.command.Command.{Command}
 use Rattle.warp_commands.specs.declared.command.Command.TheVariants.{Connection}

@@ -510,14 +510,7 @@ fn faults_of_the_files_have_their_statuses(rt: HostRuntime) -> Result<(), Fail> 
         };
         let reads = cut(alloc, ASKED, in_bytes)?;
         let outcome = over_the_site(alloc, &["connection", "site"], reads, scene)?;
-        ends(
-            &rt,
-            what,
-            &outcome,
-            5,
-            &PAGE.as_bytes()[..sent],
-            "file fault\n",
-        );
+        ends(&rt, what, &outcome, 5, sent.as_bytes(), "file fault\n");
     }
     Ok(())
 }

@@ -13,7 +13,7 @@ use Rattle.warp_request.specs.declared.verdict.Framing.TheVariants as Framings
 use Rattle.warp_request.specs.Body.{BodyVerdict, more, whole, Part, cut, wrong, past, behind_content, behind_digits, behind_extension, behind_line, body_of, capped, chunk_line, chunked, chunks, is_extension_byte, is_hex, line_end, line_of, number_of, opens_extension, section_of, trailers, verdict_of}
 use Rattle.warp_request.proofs.BodyLemmas.{digits_nil, line_end_nil, line_end_wrong}
 
--- a part with more bytes behind it
+-- a part with more bytes after it
 abbrev grown : List ℕ → Part → Part
 grown t cut = cut
 grown t (wrong code) = wrong code
@@ -63,7 +63,7 @@ digits_grow (d ∷ digits) (b ∷ s) t settled = by (opens_extension b) settled
         ∙ line_end_grows n (behind_extension s) t settled
     by false settled = line_end_grows n (b ∷ s) t settled
 
--- those that are counted at the front, with more behind them
+-- those that are counted at the front, with more after them
 prefix_grows : (p : ℕ → Bool) (s t : List ℕ) → prefix_len p s ≤ prefix_len p (s ++ t)
 prefix_grows p [] t = omega arith
 prefix_grows p (x ∷ s) t = by (p x) (prefix_grows p s t)
@@ -136,7 +136,7 @@ section_grows fresh (b ∷ c ∷ s) t settled =
 
 -- ---- parts within their first bytes
 
--- what is left behind a part of the first bytes
+-- what is left after a part of the first bytes
 left_behind : (n m : ℕ) (s t : List ℕ) → m ≤ length s → past n (drop m (s ++ t)) ≡ grown t (past n (drop m s))
 left_behind n m s t fits = ap (λ (u : List ℕ). past n u) (drop-append-le m s t fits)
 

@@ -89,7 +89,7 @@ all_more p (x ∷ line) b all one =
 pub number_more : (line : List ℕ) (b : ℕ) → number_of (line ++ b ∷ []) ≡ with_digit (number_of line) b
 number_more line b = fold-append with_digit 0 line (b ∷ [])
 
--- behind the digits stands a byte that is none
+-- after the digits stands a byte that is none
 pub digits_end : (line u : List ℕ) (b : ℕ) → list_all is_hex line ≡ true → hex_digit b ≡ None → length line ≤ 8
     → line_of (line ++ b ∷ u) ≡ behind_digits line (b ∷ u)
 unfolding line_of

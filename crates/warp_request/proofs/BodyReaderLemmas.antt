@@ -19,7 +19,7 @@ use Rattle.warp_request.specs.Body.{more, refused, whole, Part, cut, wrong, past
 use Rattle.warp_request.specs.BodyReader.{HasChunks, InContent, InLine, InTrailers, IsDigits, LeavesOfLine, RepresentsAt, section_at, state_at, state_verdict}
 use Rattle.warp_request.proofs.BodyLemmas.{all_more, capped_cut, capped_full, capped_past, capped_wrong, digits_cut, digits_end, digits_many, digits_none, digits_some, extension_last, extension_nil, extension_other, extension_return, extension_text, line_end_nil, line_end_no_feed, line_end_past, line_end_return, line_end_wrong, number_more, section_nil, section_return}
 
--- one byte behind those fed
+-- one byte after those fed
 one_more : (fed t : List ℕ) (b : ℕ) → fed ++ b ∷ [] ++ t ≡ fed ++ b ∷ t
 one_more fed t b = append_assoc fed (b ∷ []) t
 
@@ -129,7 +129,7 @@ digit_refused framing fed sum count number b d some many (chunked_is, in_line) =
     line_refused framing in_line.before line fed in_line.left sum b bad_request chunked_is in_line.parts in_line.chunks
     (λ t. capped_wrong 256 bad_request bad_request line t b line_of (omega (arith, full)) (λ u. digits_many line u b d x.all some full))
 
--- what the byte behind the digits leaves of the line
+-- what the byte after the digits leaves of the line
 number_leaves : (line : List ℕ) (count number b : ℕ) → IsDigits count number line → hex_digit b ≡ None → 1 ≤ count
     → (u : List ℕ) → line_of (line ++ b ∷ u) ≡ cond (opens_extension b) (line_end number (behind_extension u)) (line_end number (b ∷ u))
 number_leaves line count number b x none some u =
@@ -147,7 +147,7 @@ number_none framing fed sum count number b none zero_is (chunked_is, in_line) =
     (λ t. capped_wrong 256 bad_request bad_request line t b line_of (omega (arith, short))
     (λ u. digits_end line u b x.all none short ∙ ap (λ (l : List ℕ). behind_digits l (b ∷ u)) empty ∙ digits_none b u))
 
--- CR behind the digits
+-- CR after the digits
 pub number_return : (framing : Framing) (fed : List ℕ) (sum count number b : ℕ) → hex_digit b ≡ None → 1 ≤ count → b ≡ 13
     → RepresentsAt (Places.Size count number) sum framing fed → RepresentsAt (Places.LineFeed number) sum framing (fed ++ b ∷ [])
 number_return framing fed sum count number b none some is (chunked_is, in_line) =
@@ -196,7 +196,7 @@ number_extension framing fed sum count number b none some opens (chunked_is, in_
       },
     )
 
--- any other byte behind the digits is refused
+-- any other byte after the digits is refused
 pub number_refused : (framing : Framing) (fed : List ℕ) (sum count number b : ℕ) → hex_digit b ≡ None → 1 ≤ count → b ≢ 13
     → opens_extension b ≡ false → RepresentsAt (Places.Size count number) sum framing fed → RepresentsAt (Places.Refused bad_request) sum framing (fed ++ b ∷ [])
 number_refused framing fed sum count number b none some other opens (chunked_is, in_line) =
@@ -231,7 +231,7 @@ extension_more framing fed sum room number b some text (chunked_is, has_room, in
       },
     )
 
--- CR behind an extension
+-- CR after an extension
 pub extension_ends : (framing : Framing) (fed : List ℕ) (sum room number b : ℕ) → 1 < room → b ≡ 13
     → RepresentsAt (Places.Extension room number) sum framing fed → RepresentsAt (Places.LineFeed number) sum framing (fed ++ b ∷ [])
 extension_ends framing fed sum room number b some is (chunked_is, has_room, in_line) =
@@ -310,7 +310,7 @@ feed_too_large framing fed sum number b is over (chunked_is, (room, has_room, in
     (λ t. feed_leaves fed sum number b room is has_room in_line t
     ∙ ap (λ (c : Bool). cond c (wrong content_too_large) (cond (number == 0) (trailers t) (behind_content (chunks in_line.left (sum + number)) (line_end 0 (drop number t))))) large)
 
--- the last chunk, behind which the trailers begin
+-- the last chunk, after which the trailers begin
 pub feed_last : (framing : Framing) (fed : List ℕ) (sum number b next : ℕ) → b ≡ 10 → sum + number ≤ body_limit → number ≡ 0
     → RepresentsAt (Places.LineFeed number) sum framing fed → RepresentsAt (Places.Trailers 4096 Lines.Start) next framing (fed ++ b ∷ [])
 feed_last framing fed sum number b next is fits none (chunked_is, (room, has_room, in_line)) =
@@ -421,7 +421,7 @@ chunk_done framing fed bytes sum behind used fits all (chunked_is, x) =
       },
     )
 
--- CR behind a chunk
+-- CR after a chunk
 pub chunk_return : (framing : Framing) (fed : List ℕ) (sum b : ℕ) → b ≡ 13
     → RepresentsAt Places.ChunkReturn sum framing fed → RepresentsAt Places.ChunkLineFeed sum framing (fed ++ b ∷ [])
 chunk_return framing fed sum b is (chunked_is, x) = (
@@ -435,7 +435,7 @@ chunk_return framing fed sum b is (chunked_is, x) = (
   },
 )
 
--- another byte behind a chunk
+-- another byte after a chunk
 pub chunk_refused : (framing : Framing) (fed : List ℕ) (sum b : ℕ) → b ≢ 13
     → RepresentsAt Places.ChunkReturn sum framing fed → RepresentsAt (Places.Refused bad_request) sum framing (fed ++ b ∷ [])
 chunk_refused framing fed sum b other (chunked_is, x) =
@@ -443,7 +443,7 @@ chunk_refused framing fed sum b other (chunked_is, x) =
     (λ t. ap (λ (s : List ℕ). chunked s) (one_more fed t b) ∙ x.reads (b ∷ t)
     ∙ ap (λ (p : Part). behind_content (chunks (suc x.left) sum) p) (line_end_wrong 0 b t other))
 
--- LF behind the CR of a chunk, and the next line begins
+-- LF after the CR of a chunk, and the next line begins
 pub chunk_feed : (framing : Framing) (fed : List ℕ) (sum b : ℕ) → b ≡ 10
     → RepresentsAt Places.ChunkLineFeed sum framing fed → RepresentsAt (Places.Size 0 0) sum framing (fed ++ b ∷ [])
 chunk_feed framing fed sum b is (chunked_is, x) = (
@@ -464,7 +464,7 @@ chunk_feed framing fed sum b is (chunked_is, x) = (
   },
 )
 
--- another byte behind the CR of a chunk
+-- another byte after the CR of a chunk
 pub chunk_no_feed : (framing : Framing) (fed : List ℕ) (sum b : ℕ) → b ≢ 10
     → RepresentsAt Places.ChunkLineFeed sum framing fed → RepresentsAt (Places.Refused bad_request) sum framing (fed ++ b ∷ [])
 chunk_no_feed framing fed sum b other (chunked_is, x) =
@@ -608,7 +608,7 @@ says_more place sum framing fed piece used stands opens all =
     let whole_is : take used piece ≡ piece = take_all used piece (omega (arith, all)) in
     ap (λ (s : List ℕ). body_of framing (fed ++ s)) (sym whole_is) ∙ open_is_more place sum framing (fed ++ take used piece) stands opens
 
--- what a reader says behind a piece is said of all bytes so far
+-- what a reader says after a piece is said of all bytes so far
 pub says_of_all : (place : BodyPlace) (sum : ℕ) (framing : Framing) (fed piece : List ℕ) (used : ℕ) → used ≤ length piece
     → RepresentsAt place sum framing (fed ++ take used piece) → (state_at place ≡ States.More → used ≡ length piece)
     → body_of framing (fed ++ piece) ≡ state_verdict (state_at place) (length fed + used)

@@ -68,7 +68,7 @@ and_false : (b : Bool) → (b && false) ≡ false
 and_false true = refl
 and_false false = refl
 
--- behind `chunked` another coding is wrong
+-- after `chunked` another coding is wrong
 wrong_more : (codings : List (List ℕ)) (c : List ℕ) (b : Bool) → is_chunked c ≡ b → 1 ≤ count_by is_chunked codings → SaysCoding Wrong (codings ++ c ∷ [])
 unfolding ends_in_chunked
 wrong_more codings c true e some =
@@ -102,7 +102,7 @@ coding_more Wrong codings c b e is = wrong_more codings c b e is.0
 abbrev is_some : List ℕ → Bool
 is_some member = nat_lt 0 (length member)
 
--- all members behind others
+-- all members after others
 codings_behind : (lines : CodingLines) (before members : List (List ℕ)) → SaysCoding lines before → SaysCoding (fold coding_with lines members) (before ++ filter is_some members)
 codings_behind lines before [] is = subst (λ (l : List (List ℕ)). SaysCoding lines l) (sym (append-nil before)) is
 codings_behind lines before (member ∷ members) is =

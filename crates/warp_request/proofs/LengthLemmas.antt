@@ -112,7 +112,7 @@ length_more wrong (first ∷ members) member is = by (is_numeral member)
     by true = (omega arith, fault_more first member members true (is_this (decimal_of first) member) is.1 refl)
     by false = (omega arith, fault_more first member members true (is_this (decimal_of first) member) is.1 refl)
 
--- all members behind others
+-- all members after others
 lengths_behind : (lines : Lengths) (before members : List (List ℕ)) → SaysLength lines before → SaysLength (fold length_with lines members) (before ++ members)
 lengths_behind lines before [] is = subst (λ (ms : List (List ℕ)). SaysLength lines ms) (sym (append-nil before)) is
 lengths_behind lines before (member ∷ members) is =

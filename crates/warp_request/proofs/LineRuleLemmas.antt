@@ -38,7 +38,7 @@ skip_more [] t line = absurd (both_ways false refl line)
 skip_more (b ∷ []) t line = one_more b t (b == 10) refl line
 skip_more (b ∷ c ∷ s) t line = two_more b c s t (b == 10) (b == 13 && c == 10) (skip_more (c ∷ s) t) (skip_more s t) line
 
--- behind the empty lines nothing changes when more bytes follow
+-- after the empty lines nothing changes when more bytes follow
 pub skip_empty-append : (s t : List ℕ) → has_line s ≡ true → skip_empty (s ++ t) ≡ skip_empty s ++ t
 unfolding has_line
 skip_empty-append s t line = skip_more s t line

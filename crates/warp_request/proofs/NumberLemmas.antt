@@ -1,4 +1,4 @@
--- Two decimal numbers are the same exactly where their digits behind leading zeros are.
+-- Two decimal numbers are the same exactly where their digits after leading zeros are.
 use Rattle.std.proofs.Common.{◌≡◌, ◌≢◌, ℕ, ◌<◌, ◌≤◌, ◌⊎◌, Bool, true, false, cond, not, List, [], ◌∷◌, length, refl, sym, ap, ◌∙◌, inl, inr, arith}
 use Rattle.std.specs.Prelude.{◌&&◌, ◌==◌, fold, nat_le, bytes_eq}
 use Rattle.std.specs.Bool.{one_answer}
@@ -9,7 +9,7 @@ use Rattle.std.proofs.lemmas.Slice.Eq.{bytes_eq-Decides}
 use Rattle.warp_request.specs.Content.{decimal_of, is_digit, with_decimal}
 use Rattle.warp_request.specs.NamedLines.{skip_zeros}
 
--- the number that digits make behind a number
+-- the number that digits make after a number
 abbrev behind : ℕ → List ℕ → ℕ
 behind n digits = fold with_decimal n digits
 
@@ -21,7 +21,7 @@ both false b e = absurd cc
 digit_from : (d : ℕ) → is_digit d ≡ true → (48 ≤ d) × (d ≤ 57)
 digit_from d is = let x = both (nat_le 48 d) (nat_le d 57) is in (grind (arith, nat_tests), grind (arith, nat_tests))
 
--- a number that is behind a smaller one is smaller, with as many digits
+-- a number that is after a smaller one is smaller, with as many digits
 less : (a b : List ℕ) (m n : ℕ) → list_all is_digit a ≡ true → list_all is_digit b ≡ true → length a ≡ length b → m < n → behind m a < behind n b
 less [] [] m n p q same below = below
 less [] (y ∷ b) m n p q same below = absurd (omega (arith, same))
@@ -33,7 +33,7 @@ less (x ∷ a) (y ∷ b) m n p q same below =
     let dy = digit_from y qy.0 in
     less a b (with_decimal m x) (with_decimal n y) px.1 qy.1 (omega (arith, same)) (omega (arith, below, dx.0, dx.1, dy.0, dy.1))
 
--- one behind a larger number is larger, with as many digits or more
+-- one after a larger number is larger, with as many digits or more
 longer : (a b : List ℕ) (m : ℕ) → list_all is_digit a ≡ true → list_all is_digit b ≡ true → length b ≤ length a → 0 < m → behind 0 b < behind m a
 longer [] b m p q fits some = less b [] 0 m q refl (omega (arith, fits)) some
 longer (x ∷ a) b m p q fits some = go (cases_lt (length a) (length b)) (λ shorter. longer a b (with_decimal m x) rest q shorter larger)
@@ -76,7 +76,7 @@ shorter_less (x ∷ a) b right p q short =
     let other : x ≢ 48 = λ e. let is : (x == 48) ≡ true = eq-eqb x 48 e in let none = sym right ∙ ap not is in absurd cc in
     longer a b (with_decimal 0 x) px.1 q (omega (arith, short)) (omega (arith, dx.0, other))
 
--- the law: the same number has the same digits behind its zeros
+-- the law: the same number has the same digits after its zeros
 unique : (a b : List ℕ) → begins_right a ≡ true → begins_right b ≡ true → list_all is_digit a ≡ true → list_all is_digit b ≡ true → decimal_of a ≡ decimal_of b → a ≡ b
 unique a b right_a right_b p q e = go (cases_lt (length a) (length b)) (cases_lt (length b) (length a))
   where

@@ -1,5 +1,5 @@
 -- One more field, by the name that it has.
-use Rattle.std.proofs.Common.{◌≡◌, ℕ, true, false, List, [], ◌∷◌, ◌++◌, refl, sym, ap, ◌∙◌}
+use Rattle.std.proofs.Common.{◌≡◌, ℕ, true, List, [], ◌∷◌, ◌++◌, refl, sym, ap, ◌∙◌}
 use Rattle.warp_request.specs.declared.coding.CodingLines.{CodingLines}
 use Rattle.warp_request.specs.declared.connection.ConnectionLines.{ConnectionLines}
 use Rattle.warp_request.specs.declared.expect.ExpectLines.{ExpectLines}

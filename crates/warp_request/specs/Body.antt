@@ -1,4 +1,4 @@
--- What the bytes behind a head say of the body that its framing promises (RFC 9112, sections 6 and 7.1).
+-- To be believed: what the bytes after a head say of the body that its framing promises (RFC 9112, sections 6 and 7.1).
 use Rattle.std.specs.Prelude.{ℕ, zero, suc, ◌+◌, ◌*◌, ◌-◌, Bool, true, false, ◌&&◌, ◌||◌, List, [], ◌∷◌, Option, Some, None, is_some, length, take, drop, fold, unwrap_or, if◌then◌else◌, ◌==◌, nat_le, nat_lt}
 use Rattle.std.specs.List.{prefix_len}
 use Rattle.httparse.specs.Ascii.{line_feed, carriage_return}
@@ -30,7 +30,7 @@ hex_digit b =
 abbrev pub is_hex : ℕ → Bool
 is_hex b = is_some (hex_digit b)
 
--- the number behind which one more digit stands
+-- the number after which one more digit stands
 abbrev pub with_digit : ℕ → ℕ → ℕ
 with_digit n b = n * 16 + unwrap_or (hex_digit b) 0
 
@@ -46,12 +46,12 @@ opens_extension b = b == 59 || (b == 32 || b == 9)
 abbrev pub is_extension_byte : ℕ → Bool
 is_extension_byte b = b == 9 || ((nat_le 32 b && nat_le b 126) || nat_le 128 b)
 
--- the bytes behind those of an extension
+-- the bytes after those of an extension
 unfoldable pub behind_extension : List ℕ → List ℕ
 behind_extension [] = []
 behind_extension (b ∷ s) = if is_extension_byte b then behind_extension s else b ∷ s
 
--- CRLF, behind which a number is said
+-- CRLF, after which a number is said
 unfoldable pub line_end : ℕ → List ℕ → Part
 line_end n [] = cut
 line_end n (b ∷ []) = if b == carriage_return then cut else wrong bad_request
@@ -70,8 +70,7 @@ line_of s =
     let n = prefix_len is_hex s in
     if nat_lt chunk_digits n then wrong bad_request else behind_digits (take n s) (drop n s)
 
--- lines of bytes other than CR, LF and NUL, each ended by CRLF, and an empty line as their end; `fresh` says
--- that no byte of a line came yet
+-- lines of bytes but CR, LF and NUL, each ended by CRLF, and an empty one as their end; `fresh`: no byte of a line came yet
 unfoldable pub section_of : Bool → List ℕ → Part
 section_of fresh [] = cut
 section_of fresh (b ∷ []) = if b == carriage_return then cut else (if b == line_feed || b == 0 then wrong bad_request else cut)
@@ -99,7 +98,7 @@ behind_content next cut = cut
 behind_content next (wrong code) = wrong code
 behind_content next (past n s) = next s
 
--- what follows a chunk line: the trailers behind the last chunk, whose size is 0, else the content and the next chunk
+-- what follows a chunk line: the trailers after the last chunk, whose size is 0, else the content and the next chunk
 abbrev pub behind_line : (ℕ → List ℕ → Part) → ℕ → Part → Part
 behind_line next sum cut = cut
 behind_line next sum (wrong code) = wrong code
@@ -107,7 +106,7 @@ behind_line next sum (past size s) =
     if nat_lt body_limit (sum + size) then wrong content_too_large
     else (if size == 0 then trailers s else behind_content (next (sum + size)) (line_end 0 (drop size s)))
 
--- so many chunks at most, behind chunks whose sizes have a sum
+-- so many chunks at most, after chunks whose sizes have a sum
 unfoldable pub chunks : ℕ → ℕ → List ℕ → Part
 chunks zero sum s = wrong content_too_large
 chunks (suc left) sum s = behind_line (chunks left) sum (chunk_line s)

@@ -1,4 +1,4 @@
--- For which bytes a reader of a body stands: those that were used so far.
+-- To be believed: what a state says of a body (`state_verdict`); the rest is how a reader represents the bytes that it used.
 use Rattle.std.specs.Prelude.{◌≡◌, ℕ, suc, ◌+◌, ◌<◌, ◌≤◌, ◌^◌, true, false, List, ◌∷◌, ◌++◌, Option, Some, None, length, drop}
 use Rattle.std.specs.List.{list_all}
 use Rattle.httparse.specs.Ascii.{carriage_return}
@@ -23,7 +23,7 @@ state_verdict States.More used = more
 state_verdict States.Whole used = whole used
 state_verdict (States.Refuse code) used = refused code
 
--- behind these bytes a chunk line begins, with so many chunks left behind its own and content of this sum before it
+-- after these bytes a chunk line begins, with so many chunks left after its own and content of this sum before it
 pub record HasChunks (before : List ℕ) (left sum : ℕ) : Type 0 where
   pub goes_on : (t : List ℕ) → chunked (before ++ t) ≡ chunks (suc left) sum t
   pub enough : body_limit ≤ left + sum
@@ -51,7 +51,7 @@ pub record LeavesOfLine (room : ℕ) (rest : List ℕ → Part) (line : List ℕ
   pub kept : length line + room ≡ chunk_line_limit
   pub reads : (t : List ℕ) → line_of (line ++ t) ≡ rest t
 
--- the bytes end in a chunk or the CRLF behind it; this is what is left of them
+-- the bytes end in a chunk or the CRLF after it; this is what is left of them
 pub record InContent (rest : List ℕ → List ℕ) (sum : ℕ) (fed : List ℕ) : Type 0 where
   pub left : ℕ
   pub reads : (t : List ℕ) → chunked (fed ++ t) ≡ behind_content (chunks (suc left) sum) (line_end 0 (rest t))
@@ -81,7 +81,7 @@ state_at Places.Whole = States.Whole
 state_at (Places.Refused code) = States.Refuse code
 state_at _ = States.More
 
--- where the beginning of a body stands, behind these bytes of it
+-- where the beginning of a body stands, after these bytes of it
 abbrev pub RepresentsAt : BodyPlace → ℕ → Framing → List ℕ → Type 0
 RepresentsAt (Places.Content behind) sum framing fed = framing ≡ Framings.Length (length fed + (behind + 1))
 RepresentsAt (Places.Size count number) sum framing fed = (framing ≡ Framings.Chunked) × InLine (IsDigits count number) sum fed
@@ -110,17 +110,17 @@ step_leaves Steps.Ends t = past 0 t
 step_leaves Steps.Breaks t = wrong bad_request
 step_leaves (Steps.Goes line) t = section_at line t
 
--- how many bytes of a piece belong to content that has one more byte and some behind it, and how many are left behind the next
+-- how many bytes of a piece belong to content that has one more byte and some after it, and how many are left after the next
 abbrev pub Skips : ℕ → ℕ → ℕ → Option ℕ → Type 0
 Skips behind size used None = (used ≡ behind + 1) × (used ≤ size)
 Skips behind size used (Some rest) = (used ≡ size) × (1 ≤ size) × (rest + size ≡ behind)
 
--- content of a known length of which so many bytes are left behind the next, or none
+-- content of a known length of which so many bytes are left after the next, or none
 abbrev pub place_in_content : Option ℕ → BodyPlace
 place_in_content None = Places.Whole
 place_in_content (Some behind) = Places.Content behind
 
--- a chunk of which so many bytes are left behind the next, or none
+-- a chunk of which so many bytes are left after the next, or none
 abbrev pub place_in_chunk : Option ℕ → BodyPlace
 place_in_chunk None = Places.ChunkReturn
 place_in_chunk (Some behind) = Places.Chunk behind

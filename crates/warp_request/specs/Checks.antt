@@ -1,4 +1,4 @@
--- The checks that a head has to pass, in their order.
+-- To be believed: the checks that a head has to pass, in their order.
 use Rattle.std.specs.Prelude.{ℕ, Bool, not, ◌&&◌, ◌==◌, List, [], ◌∷◌, ◌++◌, length, map, if◌then◌else◌, nat_lt, Option, Some, None}
 use Rattle.std.specs.List.{list_all}
 use Rattle.httparse.specs.Grammar.{RequestHead, print_request}
@@ -19,6 +19,7 @@ pub record Parts : Type 0 where
   pub fields : List (List ℕ × List ℕ)
   pub len : ℕ
 
+-- the parts of a head of the grammar
 abbrev pub parts_of : RequestHead → Parts
 parts_of h = record {
   method = h.method;

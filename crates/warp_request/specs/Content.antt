@@ -1,5 +1,4 @@
--- How the content of a request is delimited, and whether its client waits for an interim answer, as its fields
--- say (RFC 9112, section 6; RFC 9110, section 10.1.1). A line's value comes without the spaces and tabs at its ends.
+-- To be believed: how the content of a request is delimited, and whether its client waits (RFC 9112, section 6; RFC 9110, section 10.1.1).
 use Rattle.std.specs.Prelude.{ℕ, ◌+◌, ◌*◌, ◌-◌, Bool, true, false, not, ◌&&◌, List, [], ◌∷◌, length, fold, get_or, if◌then◌else◌, ◌==◌, nat_le, nat_lt}
 use Rattle.std.specs.List.{list_any, list_all, filter, count_by}
 use Rattle.std.specs.Str.{str_eq_ignore_ascii_case}
@@ -37,7 +36,7 @@ is_digit b = nat_le 48 b && nat_le b 57
 abbrev pub is_numeral : List ℕ → Bool
 is_numeral member = nat_lt 0 (length member) && list_all is_digit member
 
--- the number behind which one more decimal digit stands
+-- the number after which one more decimal digit stands
 abbrev pub with_decimal : ℕ → ℕ → ℕ
 with_decimal n b = n * 10 + (b - 48)
 

@@ -1,4 +1,4 @@
--- Whether a text begins with a piece of httparse's grammar, may still become one, or never will.
+-- Inner: the proof that `beginning` has an answer for every text. Nobody need read it: what it makes is trusted by the type of `beginning`.
 use Rattle.std.proofs.Common.{◌≡◌, ℕ, zero, suc, ◌<◌, ◌≤◌, ◌⊎◌, Bool, true, false, List, [], ◌∷◌, ◌++◌, length, refl, sym, ap, ◌∙◌, subst, arith, append-nil, length-append, inl, inr, IsUtf8}
 use Rattle.std.specs.Str.{is_utf8}
 use Rattle.std.proofs.lemmas.Bool.{cases_eq, both_ways}
@@ -75,6 +75,7 @@ first_byte b (c ∷ s) (inr nay) (inl cr) = second_byte b c s nay cr (cases_eq c
 first_byte b s (inr nay) (inr nor) =
     never (Never_intro (λ more h. neither b (newline_first h.0 b (s ++ more) h.1 h.2) nay nor))
 
+-- a line end
 pub decide_newline : (s : List ℕ) → Decision Newline (Completes Newline) s
 decide_newline [] = cut (NotYet_intro (λ h. newline_of_none h.0 h.1 h.2)) some_newline
 decide_newline (b ∷ s) = first_byte b s (cases_eq b 10) (cases_eq b 13)
@@ -105,6 +106,7 @@ split_at test b s (inr nay) r = record {
   stops = inr nay;
 }
 
+-- the longest run of bytes at the front that pass a test, of any text
 pub run_split : (test : ℕ → Bool) (s : List ℕ) → Split test s
 run_split test [] = record { run = []; rest = []; pass = All-nil _; whole = refl; stops = inl refl }
 run_split test (b ∷ s) = split_at test b s (sides (test b)) (run_split test s)
@@ -151,6 +153,7 @@ target_of s (found w rest x) = target_text s w rest x (sides (is_utf8 w))
 target_of s (cut nay may) = cut (Refutes_by (λ more h. (h.0, h.1, h.2.0)) nay) may
 target_of s (never nay) = never (Refutes_by (λ more h. (h.0, h.1, h.2.0)) nay)
 
+-- a target
 pub decide_target : (s : List ℕ) → Decision Target (AllPass is_uri_byte) s
 decide_target s = target_of s (decide_word is_uri_byte 32 refl s)
 
@@ -168,6 +171,7 @@ bytes_at : (c b : ℕ) (bytes s : List ℕ) → (b ≡ c) ⊎ (b ≡ c → ⊥) 
 bytes_at c b bytes s (inl e) d = bytes_more c b bytes s e d
 bytes_at c b bytes s (inr nay) d = never (Never_intro (λ more h. nay (cc)))
 
+-- these bytes
 pub decide_bytes : (bytes s : List ℕ) → Decision (Bytes bytes) (Completes (Bytes bytes)) s
 decide_bytes [] s = found tt s refl
 decide_bytes (c ∷ bytes) [] = cut (NotYet_intro (λ h. cc)) (some_bytes (c ∷ bytes))
@@ -201,6 +205,7 @@ version_of s (never nay) (found a rest x) = found 1 rest (omega arith, x)
 version_of s (never nay) (cut nor may) = cut (no_version (never_yet nay) nor) (completes_version 1 s (omega arith) may)
 version_of s (never nay) (never nor) = never (no_version nay nor)
 
+-- a version
 pub decide_version : (s : List ℕ) → Decision Version (Completes Version) s
 decide_version s = version_of s (decide_bytes (print_version 0) s) (decide_bytes (print_version 1) s)
 
@@ -241,6 +246,7 @@ blank_from zero text es (b ∷ s) fits is = absurd (omega (arith, fits))
 blank_from (suc n) text es (b ∷ s) fits is =
     blank_side text es b s is (sides (is_newline b)) (λ e r short also. blank_from n text (es ++ e ∷ []) r (omega (arith, fits, short)) also)
 
+-- empty lines
 pub decide_blank : (s : List ℕ) → Decision Blank (Completes BlankLines) s
 decide_blank s = blank_from (length s) s [] s (omega arith) refl
 
@@ -281,6 +287,7 @@ unfolding AfterMethod
 blank_next s es t x (inl may) = inl (Completes_next Blank_deterministic {a = es} x may)
 blank_next s es t x (inr p) = inr (ends_in_target es p.0 p.1 x p.2 p.3)
 
+-- a request line with the empty lines before it
 pub decide_start : (s : List ℕ) → Decision RequestStart MayBecomeRequestStart s
 decide_start s =
     decide_then Blank_deterministic s (λ may. inl (line_blank may)) (λ a t x may. blank_next s a t x may)
@@ -318,6 +325,7 @@ text_at s w rest pass whole (inl e) =
     (record { more = 10 ∷ []; tree = (s, lf); reads = λ q. (all, refl) })
 text_at s w rest pass whole (inr stops) = text_end s w rest pass whole stops (decide_newline rest)
 
+-- the value of a field
 pub decide_text : (s : List ℕ) → Decision Text (Completes Text) s
 decide_text s = let r = run_split is_value_byte s in text_at s r.run r.rest r.pass r.whole r.stops
 
@@ -365,6 +373,7 @@ no_line : BeginsLine [] → ⊥
 no_line (inl x) = newline_of_none x.0 x.1 x.2
 no_line (inr y) = Stops-FieldLine y.0 [] y.1 y.2
 
+-- a line of a section
 pub decide_line : (s : List ℕ) → Line s
 decide_line [] = short (NotYet_intro no_line) (inl some_newline)
 decide_line (b ∷ s) = line_side b s (sides (is_newline b))
@@ -384,5 +393,6 @@ section_from zero text fs s fits lines = absurd (omega (arith, fits))
 section_from (suc n) text fs s fits lines =
     section_step text fs s lines (decide_line s) (λ gs r shorter also. section_from n text gs r (omega (arith, fits, shorter)) also)
 
+-- a section of fields
 pub decide_section : (s : List ℕ) → Decision Section (Completes Section) s
 decide_section s = section_from (suc (length s)) s [] s (omega arith) (All-nil _, refl)

@@ -1,4 +1,4 @@
--- The fields of a head, by name: each is a name and a value without the spaces and tabs at its ends.
+-- To be believed: the fields of a head by name; each is a name and a value without the spaces and tabs at its ends.
 use Rattle.std.specs.Prelude.{ℕ, Bool, true, not, ◌&&◌, ◌||◌, List, [], ◌∷◌, map, codes, ◌==◌}
 use Rattle.std.specs.List.{list_any, list_all, filter, flat_map, slice_split}
 use Rattle.std.specs.Char.{is_ascii_alphanumeric}
@@ -37,6 +37,6 @@ is_host_fault minor [] = minor == 1
 is_host_fault minor (value ∷ []) = not (list_all is_host_byte value)
 is_host_fault minor (value ∷ other ∷ more) = true
 
--- the connection stays open behind the answer (RFC 9112, section 9.3)
+-- the connection stays open after the answer (RFC 9112, section 9.3)
 unfoldable pub stays_open : ℕ → List (List ℕ) → Bool
 stays_open minor values = not (has_member close_word values) && (minor == 1 || has_member keep_alive_word values)

@@ -1,4 +1,4 @@
--- The lines of a head: the empty ones before it, and the rules that hold of each line by itself.
+-- To be believed: the lines of a head, the empty ones before it, and the rules that hold of each line by itself.
 use Rattle.std.specs.Prelude.{ℕ, ◌-◌, Bool, true, not, ◌&&◌, ◌||◌, List, [], ◌∷◌, ◌++◌, length, codes, if◌then◌else◌, ◌==◌, nat_eq, slice_index}
 use Rattle.std.specs.List.{list_any, list_all, ends_with, before_first}
 use Rattle.std.specs.Str.Lines.{strip_carriage_return}
@@ -23,7 +23,7 @@ line_end_len (b ∷ c ∷ s) = if b == line_feed then 1 else (if b == carriage_r
 unfoldable pub has_line : List ℕ → Bool
 has_line s = list_any (λ b. b == line_feed) (skip_empty s)
 
--- a line and those behind it, which an empty line cuts off
+-- a line and those after it, which an empty line cuts off
 abbrev pub line_before : List ℕ → List (List ℕ) → List (List ℕ)
 line_before [] later = []
 line_before (b ∷ line) later = (b ∷ line) ∷ later
@@ -42,7 +42,7 @@ ends_in_version line = ends_with nat_eq line (codes " HTTP/1.0") || ends_with na
 abbrev pub last_byte : List ℕ → ℕ
 last_byte bytes = slice_index bytes (length bytes - 1)
 
--- a later line doesn't begin with a space or a tab (RFC 9112, section 5.2), and has none directly before its first colon (section 5.1)
+-- a later line begins with no space or tab (RFC 9112, section 5.2), and has none directly before its first colon (section 5.1)
 unfoldable pub is_field_line : List ℕ → Bool
 is_field_line line =
     not (is_ows (slice_index line 0)) && not (list_any (λ b. b == colon) line && is_ows (last_byte (before_first (λ b. b == colon) line)))

@@ -69,12 +69,12 @@ connection_with lines value = record {
   keep_alive = lines.keep_alive || has_word keep_alive_word value;
 }
 
--- Transfer-Encoding lines behind the beginning of one more
+-- Transfer-Encoding lines after the beginning of one more
 abbrev pub opened : CodingLines → CodingLines
 opened codings.Absent = codings.Empty
 opened lines = lines
 
--- behind one more coding, of which it is known whether it is `chunked`
+-- after one more coding, of which it is known whether it is `chunked`
 abbrev pub coding_behind : Bool → CodingLines → CodingLines
 coding_behind chunked codings.Absent = if chunked then codings.Chunked else codings.Others
 coding_behind chunked codings.Empty = if chunked then codings.Chunked else codings.Others
@@ -99,6 +99,7 @@ pub data Lengths : Type 0 where
   number : List ℕ → Lengths
   wrong : Lengths
 
+-- what the kept Content-Length lines say
 abbrev pub lengths_shown : LengthLines → Lengths
 lengths_shown lengths.Absent = absent
 lengths_shown (lengths.Number digits) = number digits.now
@@ -155,6 +156,7 @@ pub record Named : Type 0 where
   pub lengths : Lengths
   pub expect : ExpectLines
 
+-- what the kept lines say
 abbrev pub lines_shown : NamedLines → Named
 lines_shown lines = record {
   host = lines.host;
@@ -164,6 +166,7 @@ lines_shown lines = record {
   expect = lines.expect;
 }
 
+-- what these fields say, name by name
 unfoldable pub named_lines : List (List ℕ × List ℕ) → Named
 named_lines fields = record {
   host = host_lines (values_of host_name fields);

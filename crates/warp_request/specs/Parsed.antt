@@ -1,4 +1,4 @@
--- What the parser says of a window.
+-- Inner: what the parser says of a window.
 use Rattle.std.specs.Prelude.{◌≡◌, ℕ, List}
 use Rattle.httparse.specs.Grammar.{RequestHead, ReadsRequest, HasNoRequest, MayBecomeRequest, NeverHasRequest}
 use Rattle.warp_request.specs.declared.heads.Parsed.{Parsed}

@@ -1,4 +1,4 @@
--- What an answer of `next` shows of the bytes that it was given.
+-- To be believed: what an answer of `next` shows of the bytes that it was given.
 use Rattle.std.specs.Prelude.{ℕ, ◌≤◌, List, length, take, map}
 use Rattle.httparse.specs.declared.spans.HeaderSpan.{HeaderSpan}
 use Rattle.httparse.specs.declared.spans.RequestSpans.{RequestSpans}

@@ -1,4 +1,4 @@
--- What can be said of the bytes after the last whole request.
+-- To be believed: what can be said of the bytes after the last whole request.
 use Rattle.std.specs.Prelude.{ℕ, Bool, List}
 use Rattle.warp_request.specs.declared.verdict.Framing.{Framing}
 

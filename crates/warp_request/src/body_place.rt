@@ -1,4 +1,4 @@
-// Where the reading of a body stands, and where one more byte leads it: in chunk lines, behind chunks and in
+// Where the reading of a body stands, and where one more byte leads it: in chunk lines, after chunks and in
 // the trailer section (RFC 9112, section 7.1). Each place keeps what it needs of the bytes before it and no more.
 ghost use Rattle.std.specs.Prelude.{◌≡◌, ◌++◌, Bool, List, ℕ, None, [], ◌∷◌};
 ghost use Rattle.warp_request.specs.declared.verdict.Framing.{Framing as FramingOf};
@@ -27,11 +27,11 @@ pub(crate) const LINE_FEED: u8 = b'\n';
 pub(crate) enum TrailerLine {
     /// At the beginning of a line.
     Start,
-    /// Behind a byte of a line.
+    /// After a byte of a line.
     Inside,
-    /// Behind the CR of an empty line.
+    /// After the CR of an empty line.
     StartReturn,
-    /// Behind the CR of a line that has bytes.
+    /// After the CR of a line that has bytes.
     InsideReturn,
 }
 
@@ -49,21 +49,21 @@ enum TrailerStep {
 /// What the next byte of a body belongs to.
 #[derive(Clone, Copy)]
 pub(crate) enum BodyPlace {
-    /// Content of a known length: the next byte, and so many behind it.
+    /// Content of a known length: the next byte, and this many after it.
     Content(u64),
     /// The digits of a chunk line: how many there were, and the number that they mean.
     Size(u8, u64),
-    /// What follows the digits of a chunk line, which may have so many more bytes, behind a chunk's size.
+    /// What follows the digits of a chunk line: the most bytes that the line may still have, and the chunk's size.
     Extension(usize, u64),
-    /// The LF of a chunk line, behind a chunk's size.
+    /// The LF of a chunk line, after a chunk's size.
     LineFeed(u64),
-    /// The content of a chunk: the next byte, and so many behind it.
+    /// The content of a chunk: the next byte, and this many after it.
     Chunk(u64),
-    /// The CR behind the content of a chunk.
+    /// The CR after the content of a chunk.
     ChunkReturn,
-    /// The LF behind that CR.
+    /// The LF after that CR.
     ChunkLineFeed,
-    /// The trailer section, which may have so many more bytes, at a place in one of its lines.
+    /// The trailer section: the most bytes that it may still have, and the place in one of its lines.
     Trailers(usize, TrailerLine),
     /// Nothing: all bytes of the body were used.
     Whole,
@@ -71,7 +71,7 @@ pub(crate) enum BodyPlace {
     Refused(u16),
 }
 
-/// Content of a known length of which so many bytes are left behind the next, or none.
+/// Content of a known length with this many bytes after the next, or with none left.
 pub(crate) fn content_place(behind: Option<u64>) -> BodyPlace
     ensures { result ≡ place_in_content behind }
 {
@@ -81,7 +81,7 @@ pub(crate) fn content_place(behind: Option<u64>) -> BodyPlace
     }
 }
 
-/// A chunk of which so many bytes are left behind the next, or none.
+/// A chunk with this many bytes after the next, or with none left.
 pub(crate) fn chunk_place(behind: Option<u64>) -> BodyPlace
     ensures { result ≡ place_in_chunk behind }
 {
@@ -103,7 +103,7 @@ fn hex_digit(byte: u8) -> Option<u64>
     }
 }
 
-/// Behind the digits of a chunk line comes one more digit, CR or an extension.
+/// After the digits of a chunk line comes one more digit, CR or an extension.
 pub(crate) fn behind_digits(count: u8, number: u64, byte: u8) -> BodyPlace
     ensures { (sum : ℕ) (framing : FramingOf) (fed : List ℕ) → RepresentsAt (BodyPlace.Size count number) sum framing fed
         → RepresentsAt result sum framing (fed ++ byte ∷ []) }
@@ -119,7 +119,7 @@ pub(crate) fn behind_digits(count: u8, number: u64, byte: u8) -> BodyPlace
     }
 }
 
-/// Behind all digits of a chunk line comes CR or an extension.
+/// After all digits of a chunk line comes CR or an extension.
 fn behind_number(count: u8, number: u64, byte: u8) -> BodyPlace
     requires { digit_of byte ≡ None }
     ensures { (sum : ℕ) (framing : FramingOf) (fed : List ℕ) → RepresentsAt (BodyPlace.Size count number) sum framing fed
@@ -169,7 +169,7 @@ pub(crate) fn behind_extension(room: usize, number: u64, byte: u8) -> BodyPlace
     BodyPlace::Refused(BAD_REQUEST)
 }
 
-/// Behind the content of a chunk comes CR.
+/// After the content of a chunk comes CR.
 pub(crate) fn behind_chunk(byte: u8) -> BodyPlace
     ensures { (sum : ℕ) (framing : FramingOf) (fed : List ℕ) → RepresentsAt BodyPlace.ChunkReturn sum framing fed
         → RepresentsAt result sum framing (fed ++ byte ∷ []) }
@@ -181,7 +181,7 @@ pub(crate) fn behind_chunk(byte: u8) -> BodyPlace
     }
 }
 
-/// Behind the CR of a chunk comes LF, and then the next chunk line.
+/// After the CR of a chunk comes LF, and then the next chunk line.
 pub(crate) fn behind_chunk_return(byte: u8) -> BodyPlace
     ensures { (sum : ℕ) (framing : FramingOf) (fed : List ℕ) → RepresentsAt BodyPlace.ChunkLineFeed sum framing fed
         → RepresentsAt result sum framing (fed ++ byte ∷ []) }
@@ -234,7 +234,7 @@ fn trailer_step(line: TrailerLine, byte: u8) -> TrailerStep
     }
 }
 
-/// What one byte does that isn't behind a CR, in a line where CR leads to a place.
+/// What one byte does that isn't after a CR, in a line where CR leads to a place.
 fn text_step(byte: u8, at_return: TrailerLine) -> TrailerStep
     ensures { (fresh : Bool) → ((u : List ℕ) → section_at at_return u ≡ section_of fresh (13 ∷ u))
         → (t : List ℕ) → section_of fresh (byte ∷ t) ≡ step_leaves result t }

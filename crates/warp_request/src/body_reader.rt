@@ -30,11 +30,11 @@ pub enum BodyState {
 pub struct Fed {
     /// How many bytes at the front of the piece belong to the body.
     pub used: usize,
-    /// Where the reader stands behind them.
+    /// Where the reader stands after them.
     pub state: BodyState,
 }
 
-/// How many bytes of a piece belong to content, and what is left of the content behind the next byte.
+/// How many bytes of a piece belong to content, and what is left of the content after the next byte.
 #[derive(Clone, Copy)]
 struct Skipped {
     used: usize,
@@ -61,7 +61,7 @@ impl BodyReader {
         BodyReader { place, sum: 0 }
     }
 
-    /// Uses the bytes at the front of the piece that belong to the body. Behind `Whole` or `Refuse` it uses
+    /// Uses the bytes at the front of the piece that belong to the body. After `Whole` or `Refuse` it uses
     /// nothing and answers the same again.
     pub fn feed(&mut self, piece: &[u8]) -> Fed
         ensures within { result.used ≤ length piece.now }
@@ -146,7 +146,7 @@ impl BodyReader {
         1
     }
 
-    /// Behind the CR of a chunk line comes its LF, and then what the size of the chunk says.
+    /// After the CR of a chunk line comes its LF, and then what the size of the chunk says.
     fn begin_chunk(&mut self, size: u64, byte: u8) -> usize
         ensures used { result ≡ 1 }
         ensures stands { (framing : FramingOf) (fed : List ℕ) → RepresentsAt (BodyPlace.LineFeed size) self.old.sum framing fed
@@ -167,7 +167,7 @@ impl BodyReader {
     }
 }
 
-/// How many of so many bytes belong to content that has one more byte and some behind it.
+/// How many of the next `size` bytes are content, where `behind + 1` bytes of it are left.
 fn skip(behind: u64, size: usize) -> Skipped
     requires { 0 < size }
     ensures { Skips behind size result.used result.behind }

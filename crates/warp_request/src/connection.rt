@@ -24,7 +24,7 @@ impl ConnectionLines {
         }
     }
 
-    /// Whether the connection stays open behind the answer to a request of this minor version.
+    /// Whether the connection stays open after the answer to a request of this minor version.
     #[tactic(auto, unfolding(crate::specs::Fields::stays_open, crate::specs::NamedLines::connection_lines))]
     pub(crate) fn stays_open(self, minor: u8) -> bool
         ensures { (values : List (List ℕ)) → self ≡ connection_lines values → result ≡ stays_open_by minor values }

@@ -25,7 +25,7 @@ pub(crate) enum Parsed {
 }
 
 /// What the bytes after the last whole request begin with (RFC 9112, sections 2 to 5). It reads
-/// no byte behind the first `HEAD_LIMIT`; the spans of a head are places in `bytes`.
+/// no byte after the first `HEAD_LIMIT`; the spans of a head are places in `bytes`.
 #[tactic(auto, using(crate::proofs::NextLaws::next_tells, crate::proofs::GrowthLemmas::next_stays))]
 pub fn next(bytes: &[u8], scratch: &mut Scratch) -> Next
     ensures is { shown bytes.now result ≡ next_of bytes.now }

@@ -1,5 +1,5 @@
 //! What the bytes after the last whole request begin with: the head of a request, something to be
-//! refused, or too little to say; and how many of the bytes behind a head are its body. Heads are read where
+//! refused, or too little to say; and how many of the bytes after a head are its body. Heads are read where
 //! they lie, bodies piece by piece; nothing is copied or allocated.
 //!
 //! The promise: `next` answers exactly what the definition `next_of` says of the same bytes, and after any pieces

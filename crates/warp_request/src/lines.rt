@@ -1,4 +1,4 @@
-// The empty lines before a head, and whether a line's end is there behind them.
+// The empty lines before a head, and whether a line's end is there after them.
 ghost use Rattle.std.specs.Prelude.{◌≡◌, ◌↔◌, ◌≤◌, ◌==◌, [], IsTrue, length, drop};
 ghost use Rattle.warp_request.specs.Lines.{skip_empty, has_line, line_end_len as line_end_length};
 
@@ -14,7 +14,7 @@ fn line_end_len(bytes: &[u8]) -> usize
     }
 }
 
-/// The place behind the empty lines at the front.
+/// The place after the empty lines at the front.
 fn after_empty(bytes: &[u8]) -> usize
     ensures within { result ≤ length bytes.now }
     ensures rest { drop result bytes.now ≡ skip_empty bytes.now }
@@ -37,7 +37,7 @@ pub fn is_blank(bytes: &[u8]) -> bool
     after_empty(bytes) == bytes.len()
 }
 
-/// Whether a line's end is there behind the empty lines.
+/// Whether a line's end is there after the empty lines.
 #[tactic(auto, unfolding(crate::specs::Lines::has_line))]
 pub(crate) fn has_line(bytes: &[u8]) -> bool
     ensures { result ≡ has_line bytes.now }

@@ -19,10 +19,10 @@ pub struct HeadInfo {
     pub target: Span,
     /// The last digit of the version: 0 or 1.
     pub minor: u8,
-    /// The bytes of the head, with the empty lines before it and the one behind it.
+    /// Length of the head in bytes, including the empty lines before it and the one after it.
     pub head_len: usize,
     pub framing: Framing,
-    /// Whether the connection stays open behind the answer (RFC 9112, section 9.3).
+    /// Whether the connection stays open after the answer (RFC 9112, section 9.3).
     pub keeps: bool,
     /// Whether the client waits for an interim answer (RFC 9110, section 10.1.1).
     pub interim: bool,

@@ -101,8 +101,7 @@ pub record IsPlaceOf (target : List ℕ) (place : Place) : Type 0 where
   pub raw : IsSpanOf target place.raw
   pub query : ForSome place.query (λ span. IsSpanOf target span)
 
--- a response has a head: its status has a phrase, it has a kind exactly where its content is a file and a place exactly
--- at 301, and the place lies in a target of at most 8,192 bytes
+-- a response has a head: a status with a phrase, a kind exactly with a file, a place exactly at 301, in a target of at most 8,192 bytes
 pub record IsSendable (target : List ℕ) (response : Response) : Type 0 where
   pub phrase : HasPhrase response.status
   pub kind : IsSome response.kind ↔ IsTrue (is_file response.content)

@@ -1,12 +1,12 @@
 -- To be believed: the statuses of answers, each with its reason phrase (RFC 9110, section 15; RFC 6585, section 5).
-use Rattle.std.specs.Prelude.{◌≡◌, ℕ, ◌≤◌, ◌==◌, List, [], ◌∷◌, map, IsTrue, codes, if◌then◌else◌}
+use Rattle.std.specs.Prelude.{ℕ, ◌==◌, List, [], ◌∷◌, map, IsTrue, codes, if◌then◌else◌}
 use Rattle.std.specs.List.{list_any}
 
 -- the request was answered
 abbrev pub ok : ℕ
 ok = 200
 
--- the folder is found behind its path with `/` at the end
+-- the folder is found after its path with `/` at the end
 abbrev pub moved_permanently : ℕ
 moved_permanently = 301
 

@@ -56,7 +56,7 @@ impl HeadBuf {
         self.len = 0;
     }
 
-    /// Writes the piece behind what is there. The caller owes that it fits.
+    /// Writes the piece after what is there. The caller owes that it fits.
     pub(crate) fn add(&mut self, piece: &[u8])
         requires { length self.old + length piece.now ≤ HEAD_BYTES }
         ensures is { self.new ≡ self.old ++ piece.now }
@@ -78,7 +78,7 @@ impl HeadBuf {
     }
 }
 
-/// Writes the piece behind the first `at` bytes of the buffer.
+/// Writes the piece after the first `at` bytes of the buffer.
 pub(crate) fn write_at(buf: &mut [u8], at: usize, piece: &[u8])
     requires { at + length piece.now ≤ length buf.old }
     ensures { take (at + length piece.now) buf.new ≡ take at buf.old ++ piece.now }

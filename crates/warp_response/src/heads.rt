@@ -8,7 +8,6 @@ use crate::fields::{LINE_END, add_allow, add_kind, add_last_word, add_length, ad
 use crate::head_buf::{HEAD_BYTES, HeadBuf};
 use crate::location::add_place;
 use crate::response::{Content, LastWord, Response};
-use crate::status;
 
 /// The status line of an answer that is sent (RFC 9112, section 4).
 #[tactic(auto, unfolding(crate::specs::Head::status_line, crate::specs::Statuses::HasPhrase))]
@@ -18,16 +17,16 @@ fn status_text(status: u16) -> &'static [u8]
     ensures short { length result.now ≤ 63 }
 {
     match status {
-        status::OK => b"HTTP/1.1 200 OK\r\n",
-        status::MOVED_PERMANENTLY => b"HTTP/1.1 301 Moved Permanently\r\n",
-        status::BAD_REQUEST => b"HTTP/1.1 400 Bad Request\r\n",
-        status::NOT_FOUND => b"HTTP/1.1 404 Not Found\r\n",
-        status::METHOD_NOT_ALLOWED => b"HTTP/1.1 405 Method Not Allowed\r\n",
-        status::CONTENT_TOO_LARGE => b"HTTP/1.1 413 Content Too Large\r\n",
-        status::URI_TOO_LONG => b"HTTP/1.1 414 URI Too Long\r\n",
-        status::EXPECTATION_FAILED => b"HTTP/1.1 417 Expectation Failed\r\n",
-        status::HEADER_FIELDS_TOO_LARGE => b"HTTP/1.1 431 Request Header Fields Too Large\r\n",
-        status::NOT_IMPLEMENTED => b"HTTP/1.1 501 Not Implemented\r\n",
+        200 => b"HTTP/1.1 200 OK\r\n",
+        301 => b"HTTP/1.1 301 Moved Permanently\r\n",
+        400 => b"HTTP/1.1 400 Bad Request\r\n",
+        404 => b"HTTP/1.1 404 Not Found\r\n",
+        405 => b"HTTP/1.1 405 Method Not Allowed\r\n",
+        413 => b"HTTP/1.1 413 Content Too Large\r\n",
+        414 => b"HTTP/1.1 414 URI Too Long\r\n",
+        417 => b"HTTP/1.1 417 Expectation Failed\r\n",
+        431 => b"HTTP/1.1 431 Request Header Fields Too Large\r\n",
+        501 => b"HTTP/1.1 501 Not Implemented\r\n",
         _ => unreachable!(),
     }
 }

@@ -1,4 +1,4 @@
-// The bytes of every answer of the server: its status line, its fields and the empty line behind them (RFC 9112,
+// The bytes of every answer of the server: its status line, its fields and the empty line after them (RFC 9112,
 // sections 2 to 4; RFC 9110). It knows no connection, no request and no file: it is told what an answer shows and
 // writes it into a buffer that has room for every head, and so it never runs out of memory after the buffer's making.
 //

@@ -39,10 +39,10 @@ pub enum Content {
 }
 
 /// The spans of the target from which Location is made. A span holds the place of its first byte, counted from 0, and
-/// the place behind its last byte.
+/// the place after its last byte.
 #[derive(Clone, Copy, Debug, PartialEq, Eq)]
 pub struct Place {
-    /// The raw path, behind which Location has a `/`.
+    /// The raw path, after which Location has a `/`.
     pub raw: (usize, usize),
     /// What follows the first `?` of the target, where there is one.
     pub query: Option<(usize, usize)>,
@@ -62,12 +62,12 @@ pub struct Response {
     pub allow: bool,
 }
 
-/// What an answer says of the connection behind it (RFC 9112, section 9.3).
+/// What an answer says of the connection after it (RFC 9112, section 9.3).
 #[derive(Clone, Copy, Debug, PartialEq, Eq)]
 pub enum LastWord {
     /// Nothing: the connection stays open, as HTTP/1.1 has it.
     Nothing,
-    /// The connection closes behind this answer.
+    /// The connection closes after this answer.
     Close,
     /// The connection stays open, which a client of HTTP/1.0 has to be told.
     KeepAlive,

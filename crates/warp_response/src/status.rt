@@ -3,7 +3,7 @@
 /// The request was answered.
 pub const OK: u16 = 200;
 
-/// The folder is found behind its path with `/` at the end.
+/// The folder is found after its path with `/` at the end.
 pub const MOVED_PERMANENTLY: u16 = 301;
 
 /// The request breaks the grammar or a rule of its lines.

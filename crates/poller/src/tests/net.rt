@@ -1,4 +1,4 @@
-// A net in memory, on one thread and on two.
+//! A net in memory, on one thread and on two.
 ghost use Rattle.std.specs.Prelude.{◌≡◌, ◌<◌, ◌^◌, ◌≤◌, IfOk, length};
 ghost use Rattle.poller.specs.Scripts.{AreScripts};
 

@@ -1,4 +1,4 @@
-// The ring of reports.
+//! The ring of reports.
 use crate::{REPORTS, Reports};
 use reg_keys::{Dirs, Opening};
 use std::test::Fail;

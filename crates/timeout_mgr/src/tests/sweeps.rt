@@ -70,7 +70,9 @@ fn openings_are_given_in_the_order_of_their_slots(rt: HostRuntime) -> Result<(),
     let mut out = Expired::new(rt.alloc())?;
     add_each(&times, &mut pass, &[9, 4, 600])?;
     times.sweep(&mut pass, &mut out);
+    assert!(rt; out.is_empty());
     times.sweep(&mut pass, &mut out);
+    assert_eq!(rt; out.len(), 3);
     for fd in [4, 9, 600] {
         assert!(rt; out.pop_first() == Some(Opening { number: 1, fd }));
     }

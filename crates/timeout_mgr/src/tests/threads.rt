@@ -54,16 +54,6 @@ fn sweepers(
     Ok(sweepers)
 }
 
-/// How many openings there are in the list, which is empty then.
-fn count(out: &mut Expired) -> u64 {
-    for taken in 0..SLOTS {
-        if out.pop_first().is_none() {
-            return taken as u64;
-        }
-    }
-    SLOTS as u64
-}
-
 /// Sweeps, and counts what was given.
 fn sweep_often(times: &Timeouts, sweeper: &mut Sweeper)
     requires { IsOf times.now sweeper.old.pass }
@@ -71,7 +61,7 @@ fn sweep_often(times: &Timeouts, sweeper: &mut Sweeper)
 {
     for _ in 0..TURNS {
         times.sweep(&mut sweeper.pass, &mut sweeper.out);
-        sweeper.given = sweeper.given.wrapping_add(count(&mut sweeper.out));
+        sweeper.given = sweeper.given.wrapping_add(sweeper.out.len() as u64);
         yield_now();
     }
 }

@@ -1,5 +1,5 @@
 // Heads that delimit their content, as honest and as hostile clients write them, each with the verdict that the
-// rules give; and the requests behind them.
+// rules give; and the requests after them.
 use crate::body_reader::{BodyReader, BodyState, Fed};
 use crate::limits::BODY_LIMIT;
 use crate::next;
@@ -10,7 +10,7 @@ use std::process::Abort;
 use std::test::*;
 use warp_response::status::{BAD_REQUEST, CONTENT_TOO_LARGE, EXPECTATION_FAILED, NOT_IMPLEMENTED};
 
-/// What the head is for, its version, its lines behind Host, and the verdict on it: the framing and whether an
+/// What the head is for, its version, its lines after Host, and the verdict on it: the framing and whether an
 /// interim answer is due, or the status of a refusal.
 type Row = (
     &'static str,

@@ -16,12 +16,12 @@ pub returns-in-Noted-clause-fits : goal.returns-in-Noted-clause-fits
 returns-in-Noted-clause-fits g c = g.met.X.Runner.laws.fits_reported c.args.runner.now c.args.opening c.args.dirs (mgr_view c.args.passes.now.mgr) (Noted c.in-Noted.event) (mgr_view c.report.new.pass) [] c.requires.own.0.lawful c.report.ensures.own.lawful c.in-Noted.ensures.step c.requires.fits
 
 pub returns-in-Noted-clause-takes : goal.returns-in-Noted-clause-takes
-returns-in-Noted-clause-takes g c = let p = c.args.passes.now in deal_any_takes_none (λ _. 1) (capacity_of c.args.queue.now) c.in-Noted.event (view_of p.queue) p.hand (view_of c.deal_any.new.pass) c.deal_any.new.hand c.deal_any.ensures.dealt
+returns-in-Noted-clause-takes g c = let p = c.args.passes.now in deal_any_takes_none (λ _. 1) (capacity_of c.args.queue.now) c.in-Noted.event (view_of p.queue) p.hand (view_of c.put_or_keep_any.new.pass) c.put_or_keep_any.new.hand c.put_or_keep_any.ensures.put_or_kept
 
 pub returns-in-Noted-clause-reported : goal.returns-in-Noted-clause-reported
 returns-in-Noted-clause-reported g c = let p = c.args.passes.now in let o = c.args.opening in let ds = c.args.dirs in let v = mgr_view p.mgr in let m = mgr_view c.report.new.pass in
     let a = noted_entered o ds v c.in-Noted.event m c.in-Noted.ensures.step in (
-      noted_deal_step (capacity_of c.args.queue.now) v m (view_of p.queue) (view_of c.deal_any.new.pass) p.hand c.deal_any.new.hand (stripe_of o.fd) o ds c.in-Noted.event a c.deal_any.ensures.dealt,
+      noted_deal_step (capacity_of c.args.queue.now) v m (view_of p.queue) (view_of c.put_or_keep_any.new.pass) p.hand c.put_or_keep_any.new.hand (stripe_of o.fd) o ds c.in-Noted.event a c.put_or_keep_any.ensures.put_or_kept,
       report_step g.X.Runner.meaning g.met.X.Runner.laws.keeps_same v m c.args.runner.now o ds (Reports.Noted c.in-Noted.event) a,
     )
 

@@ -1,5 +1,4 @@
 use Rattle.std.proofs.Common.{refl, subst, ◌∙◌, ap}
-use Rattle.std.specs.Prelude.{string_bytes}
 use Rattle.turn_cell.specs.Calls.{view_of}
 use Rattle.fd_cache.specs.declared.calls.CacheCall.TheVariants as Calls
 use Rattle.fd_cache.specs.declared.deed.CacheDeed.TheVariants as Deeds

@@ -1,6 +1,6 @@
 use Rattle.reg_keys.specs.declared.entry.AskOutcome.TheVariants as Asked
 use Rattle.event_mgr.specs.Manager.{mgr_view}
-use Rattle.fd_wait.proofs.Asked.{asked_none, asked_again, asked_last, asked_spent}
+use Rattle.fd_wait.proofs.Asked.{asked_none, asked_on, asked_last, asked_spent}
 use Rattle.fd_wait.proofs.waiting.ask_until_told.Goals as goal
 
 pub loop-init : goal.loop-init
@@ -15,8 +15,10 @@ returns-in-Closed-clause-asked g c = asked_last c.args.key Asked.Closed _ _ _ c.
 pub returns-in-Spent-clause-asked : goal.returns-in-Spent-clause-asked
 returns-in-Spent-clause-asked g c = asked_spent c.args.key _ _ _ c.loop.invariant.asked c.in-Spent.ensures.step
 
-pub loop-preserved-in-Waiting : goal.loop-preserved-in-Waiting
-loop-preserved-in-Waiting g c = record { more = tt; finite = tt; own = c.ask.ensures.own; asked = asked_again c.args.key Asked.Waiting _ _ _ tt c.loop.invariant.asked c.in-Waiting.ensures.step }
-
 pub loop-preserved : goal.loop-preserved
-loop-preserved g c = record { more = tt; finite = tt; own = c.ask.ensures.own; asked = asked_again c.args.key Asked.Unknown _ _ _ tt c.loop.invariant.asked c.in-Unknown.ensures.step }
+loop-preserved g c = record {
+  more = tt;
+  finite = tt;
+  own = c.ask.ensures.own;
+  asked = asked_on c.args.key c.ask.result _ _ _ c.in-Waiting.is c.loop.invariant.asked c.ask.ensures.step;
+}

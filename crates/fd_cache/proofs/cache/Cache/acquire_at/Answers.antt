@@ -1,8 +1,8 @@
-use Rattle.std.proofs.Common.{◌≡◌, ℕ, ◌^◌, ◌-◌, List, Option, sym, subst, inl, refl, arith}
+use Rattle.std.proofs.Common.{sym, subst, inl, refl, arith}
 use Rattle.std.specs.Prelude.{IsSomeAnd, string_bytes}
 use Rattle.fd_cache.specs.declared.deed.CacheDeed.TheVariants as Deeds
-use Rattle.fd_cache.specs.History.{IsLeasedOut, entry_at}
-use Rattle.fd_cache.specs.Shelf.{KeepsOwn, at}
+use Rattle.fd_cache.specs.History.{IsLeasedOut}
+use Rattle.fd_cache.specs.Shelf.{at}
 use Rattle.fd_cache.proofs.Entries.{entered, own_lent, own_set}
 use Rattle.fd_cache.proofs.Replies.{leased_out}
 use Rattle.fd_cache.proofs.cache.Cache.acquire_at.Goals as goal

@@ -1,6 +1,5 @@
-use Rattle.std.proofs.Common.{◌≡◌, sym, ◌∙◌}
+use Rattle.std.proofs.Common.{sym, ◌∙◌}
 use Rattle.fd_cache.specs.declared.deed.CacheDeed.TheVariants as Deeds
-use Rattle.fd_cache.specs.Shelf.{at}
 use Rattle.fd_cache.proofs.Entries.{entered, own_swept}
 use Rattle.fd_cache.proofs.Reaping.{closed_same}
 use Rattle.fd_cache.proofs.cache.Cache.reap.Goals as goal

@@ -1,7 +1,7 @@
-use Rattle.std.proofs.Common.{◌≡◌, ℕ, ◌+◌, ◌++◌, ◌<◌, length, sym, ap, subst, ◌∙◌, length-append, arith}
-use Rattle.fd_cache.specs.History.{closed, closed_at, swept}
+use Rattle.std.proofs.Common.{◌≡◌, ◌++◌, length, sym, ap, ◌∙◌, length-append, arith}
+use Rattle.fd_cache.specs.History.{closed, closed_at}
 use Rattle.fd_cache.specs.Shelf.{at}
-use Rattle.fd_cache.proofs.Reaping.{Sweeps, closed_more, closed_none, sweeps_all, sweeps_more, sweeps_none}
+use Rattle.fd_cache.proofs.Reaping.{closed_more, closed_none, sweeps_all, sweeps_more, sweeps_none}
 use Rattle.fd_cache.proofs.shelf.Shelf.reap.Goals as goal
 
 pub loop-k-init : goal.loop-k-init

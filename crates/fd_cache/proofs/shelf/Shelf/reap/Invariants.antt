@@ -1,4 +1,4 @@
-use Rattle.std.proofs.Common.{◌≡◌, ℕ, ◌*◌, ◌<◌, ◌≤◌, length}
+use Rattle.std.proofs.Common.{◌≡◌, ◌*◌, ◌<◌, ◌≤◌, length}
 use Rattle.fd_cache.specs.History.{closed}
 use Rattle.fd_cache.specs.Shelf.{at}
 use Rattle.fd_cache.proofs.Reaping.{Sweeps}

@@ -1,6 +1,6 @@
 use Rattle.std.proofs.Common.{◌≡◌, ◌<◌, ◌+◌, ◌-◌, length, refl, sym, ap, ◌∙◌, subst, arith}
 use Rattle.poller.specs.NetLinks.{NetLink, input_of}
-use Rattle.poller.specs.Ports.{DealerState, PortState}
+use Rattle.poller.specs.LinkSeats.{DealerState, LinkSeatState}
 use Rattle.poller.specs.Scripts.{AreScripts, pieces_in, room_at, steps_at}
 use Rattle.poller.proofs.ScriptLemmas.{front_script, goes_on, more_plain, planned}
 use Rattle.poller.proofs.mem_listener.MemListenerListener.accept.Goals as goal
@@ -28,12 +28,12 @@ invariant_of-self-2 c =
     let f = front_script i.dealer.scripts i.accepted.n i.scripts.items c.in-Some.script.now v.others some c.in-Some.ensures.lookup in
     let d = c.in-Ok.ensures.next in
     let scripts = ap (λ (s : DealerState). s.scripts) d in
-    let port = c.delivered.ensures.found in
+    let seat = c.delivered.ensures.found in
     let n : c.rise-2.new.self.n ≡ i.accepted.n + 1 = c.rise-2.ensures ∙ more_plain i.dealer.scripts i.accepted.n v.are f.2 in
     let next = ap (λ (s : DealerState). s.next) d in record {
-      own = ap (λ (p : PortState). p.word) port ∙ v.own;
-      same_table = ap (λ (p : PortState). p.table) port ∙ (v.same_table ∙ sym (ap (λ (s : DealerState). s.table) d));
-      same_scripts = ap (λ (p : PortState). p.scripts) port ∙ (v.same_scripts ∙ sym scripts);
+      own = ap (λ (p : LinkSeatState). p.word) seat ∙ v.own;
+      same_table = ap (λ (p : LinkSeatState). p.table) seat ∙ (v.same_table ∙ sym (ap (λ (s : DealerState). s.table) d));
+      same_scripts = ap (λ (p : LinkSeatState). p.scripts) seat ∙ (v.same_scripts ∙ sym scripts);
       are = subst AreScripts (sym scripts) v.are;
       next = omega (arith, next, n, v.next);
       most = let l = ap length scripts in omega (arith, n, f.2, l);

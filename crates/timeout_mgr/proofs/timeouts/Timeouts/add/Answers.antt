@@ -7,12 +7,27 @@ pub loop-count-init : goal.loop-count-init
 loop-count-init c = record { own = c.requires.own; taken = ([], stays_here _, none_taken _) }
 
 pub returns-in-Some-clause-adds : goal.returns-in-Some-clause-adds
-returns-in-Some-clause-adds c = let t = c.loop-count.invariant.taken in then_decides t.0 _ _ c.loop-count.pass.seat.me.0 _ t.1 c.in-Some.ensures.adds
+returns-in-Some-clause-adds c = let t = c.loop-count.invariant.taken in
+    then_decides t.0 _ _ c.loop-count.pass.seat.me.0 _ t.1 c.in-Some.ensures.adds
 
 pub loop-count-preserved : goal.loop-count-preserved
 loop-count-preserved c = let t = c.loop-count.invariant.taken in let n = c.in_default.ensures.adds in
-    record { own = c.add_at.ensures.own; taken = (n.0 ++ t.0, stays_on t.0 n.0 _ c.loop-count.pass.seat.me.0 _ t.1 n.1, next_taken _ _ _ _ t.2 n.2) }
+    record {
+      own = c.add_at.ensures.own;
+      taken = (
+        n.0 ++ t.0,
+        stays_on t.0 n.0 _ c.loop-count.pass.seat.me.0 _ t.1 n.1,
+        next_taken _ _ _ _ t.2 n.2,
+      );
+    }
 
 pub returns-clause-adds : goal.returns-clause-adds
-returns-clause-adds c = let t = c.loop-count.invariant.taken in let a = c.loop-count.auto.count-end in let b = c.loop-count-test.false in let all : c.loop-count.count ≡ 4096 = omega (arith, a, b) in
-    (c.first_slot-first.result, t.0, subst (λ n. AreTaken c.first_slot-first.result n t.0) all t.2, then_answers _ _ _ c.loop-count.pass.seat.me.0 _ t.1 c.answer.ensures.answers)
+returns-clause-adds c = let t = c.loop-count.invariant.taken in
+    let a = c.loop-count.auto.count-end in
+    let b = c.loop-count-test.false in
+    let all : c.loop-count.count ≡ 4096 = omega (arith, a, b) in (
+      c.first_slot-first.result,
+      t.0,
+      subst (λ n. AreTaken c.first_slot-first.result n t.0) all t.2,
+      then_answers _ _ _ c.loop-count.pass.seat.me.0 _ t.1 c.answer.ensures.answers,
+    )

@@ -1,5 +1,0 @@
-use Rattle.turn_cell.specs.Calls.{IsOf}
-use Rattle.event_mgr.proofs.numbers_tests.draw_all.Given as goal
-
-abbrev pub invariant-loop-number : goal.invariant-loop-number
-invariant-loop-number l = IsOf l.cell l.pass

@@ -1,5 +1,0 @@
-use Rattle.turn_cell.specs.Calls.{IsOf}
-use Rattle.event_mgr.proofs.numbers_tests.random_like_calls_are_answered_as_the_plain_body_answers.Given as goal
-
-abbrev pub invariant-loop : goal.invariant-loop
-invariant-loop g l = IsOf l.cell l.pass

@@ -1,5 +1,0 @@
-use Rattle.event_mgr.specs.Manager.{IsOfMgr}
-use Rattle.event_tests.proofs.crowded_queue_tests.register_all.Given as goal
-
-abbrev pub invariant-loop-link : goal.invariant-loop-link
-invariant-loop-link g l = IsOfMgr l.mgr l.pass

@@ -1,5 +1,0 @@
-use Rattle.std.specs.Prelude.{◌≤◌}
-use Rattle.event_tests.proofs.crowded_queue_tests.times.Given as goal
-
-abbrev pub invariant-loop-n : goal.invariant-loop-n
-invariant-loop-n l = l.count ≤ l.n-index

@@ -1,0 +1,5 @@
+//! What crosses the crates.
+mod crowded_queue;
+mod net;
+mod set_up;
+mod waiting;
