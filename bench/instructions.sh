@@ -38,6 +38,10 @@ count() {
 }
 one=$(count one)
 many=$(count many)
-echo "answered: $(grep -c '^HTTP/1.1 200' "$work/many.answers") of 1000"
+answered=$(grep -c '^HTTP/1.1 200' "$work/many.answers" || true)
+if [ "$answered" != 1000 ]; then
+    echo "answered: $answered of 1000, so nothing is counted" >&2
+    exit 1
+fi
 echo "instructions of a request: $(( (many - one) / 999 ))"
 callgrind_annotate "$work/many.out" 2>/dev/null | sed -n '/Ir/,$p' | head -60
