@@ -29,7 +29,7 @@ use Rattle.conn_loop.specs.Moves.{Takes, Sends, Refuses, HasSome, got_len, waits
 use Rattle.outside.specs.Folder.{Folder}
 use Rattle.app_trait.specs.Moves.{Moves}
 use Rattle.conn_loop.specs.Replying.{Serving, replies, serving_over}
-use Rattle.conn_loop.specs.Standing.{Standing, Accounts, AsksFor, Counted, IsAskingStage, AccountsUnless, HoldsAt, Looks, SendsPrefixFor, Stands, StepImpliesFor, due_of}
+use Rattle.conn_loop.specs.Standing.{Standing, Accounts, AsksFor, Counted, IsAskingStage, AccountsUnless, HoldsAt, Looks, SendsPrefixFor, Stands, StepImpliesFor, due_of, held_lease}
 use Rattle.conn_loop.specs.Steps.{Comes, ComesFor, Goes, IsBegun, IsFailing, MayEnd, Proceeds, stage_after, stage_kept}
 use Rattle.conn_loop.specs.Writing.{Writes, Leaves}
 use Rattle.conn_loop.proofs.StandingLemmas.{IsUnanswered, prefix_of, fewer_of, accounts_take, accounts_send, accounts_lies, accounts_given, accounts_refuse, part_of, whole_closed, whole_wanting, short_of, broken_of, closed_of, open_of, rest_is, unread_none}
@@ -417,17 +417,20 @@ proceeds_stopped moves result old new k l same asks quiet goes =
     let stage : new.stage ≡ old.stage = ap (λ (c : Standing). c.stage) same in
     record {
       over = ap (λ (c : Standing). c.over) same;
+      lent = ap (λ (c : Standing). held_lease c) same;
       asks = subst (λ (st : Stage). AsksFor moves st) (sym stage) asks;
       file = (goes.file, (λ asking. absurd (quiet (subst (λ (st : Stage). IsAskingStage st) stage asking))));
     }
 
 -- a part of a call that answers nothing and asks for nothing
-pub proceeds_quiet : (moves : Moves) (old new : Standing) → new.over ≡ old.over → AsksFor moves new.stage → (IsAskingStage new.stage → ⊥) → Proceeds moves None old new
-proceeds_quiet moves old new over asks quiet = record { over = over; asks = asks; file = ((λ e. cc), (λ asking. absurd (quiet asking))) }
+pub proceeds_quiet : (moves : Moves) (old new : Standing) → new.over ≡ old.over → held_lease new ≡ held_lease old → AsksFor moves new.stage → (IsAskingStage new.stage → ⊥)
+    → Proceeds moves None old new
+proceeds_quiet moves old new over lent asks quiet = record { over = over; lent = lent; asks = asks; file = ((λ e. cc), (λ asking. absurd (quiet asking))) }
 
 -- a part of a call behind another one
-pub proceeds_then : (moves : Moves) (result : Option Step) (old mid new : Standing) → mid.over ≡ old.over → Proceeds moves result mid new → Proceeds moves result old new
-proceeds_then moves result old mid new over x = record { over = x.over ∙ over; asks = x.asks; file = x.file }
+pub proceeds_then : (moves : Moves) (result : Option Step) (old mid new : Standing) → mid.over ≡ old.over → held_lease mid ≡ held_lease old → Proceeds moves result mid new
+    → Proceeds moves result old new
+proceeds_then moves result old mid new over lent x = record { over = x.over ∙ over; lent = x.lent ∙ lent; asks = x.asks; file = x.file }
 
 asking_unanswered : (stage : Stage) → IsAskingStage stage → IsUnanswered stage
 asking_unanswered unread x = absurd x

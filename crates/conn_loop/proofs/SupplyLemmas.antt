@@ -26,13 +26,13 @@ use Rattle.conn_loop.proofs.ToldLemmas.{told_kept}
 -- ---- what is supplied
 
 -- a connection that stands so before stands so behind a step that changes its stage and its lease alone
-restaged : (serving : Serving) (old new : Standing) (t s : List ℕ) (ended : Option Bool) (stage was : Stage) (lease : Option (List ℕ)) → old.over ≡ None → old.stage ≡ was
-    → new ≡ record old { stage = stage; lease = lease } → unread_at was serving.folder old.lease ≡ [] → unread_at stage serving.folder lease ≡ []
+restaged : (serving : Serving) (old new : Standing) (t s : List ℕ) (ended : Option Bool) (stage was : Stage) (lease : Option (List ℕ)) (entry : Option ℕ) → old.over ≡ None → old.stage ≡ was
+    → new ≡ record old { stage = stage; lease = lease; entry = entry } → unread_at was serving.folder old.lease ≡ [] → unread_at stage serving.folder lease ≡ []
     → ((given : Bool) (input ahead : List ℕ) → LiesAhead was given input ahead → LiesAhead stage given input ahead) → (Looks serving was old.lease → Looks serving stage lease)
     → Stands serving old t s ended → Stands serving new t s ended
-restaged serving old new t s ended stage was lease over at same before after lies looks x =
+restaged serving old new t s ended stage was lease entry over at same before after lies looks x =
     let accounts : Accounts serving old t s = subst (λ (o : Option End). AccountsUnless o serving old t s) over x.accounts in
-    let next : Standing = record old { stage = stage; lease = lease } in
+    let next : Standing = record old { stage = stage; lease = lease; entry = entry } in
     let there : Accounts serving next t s =
     accounts_lies serving old next t s
     (ap (λ (v : List ℕ). old.pending ++ v) (after ∙ sym before ∙ ap (λ (st : Stage). unread_at st serving.folder old.lease) (sym at))) refl refl accounts
@@ -57,30 +57,30 @@ module _ (serving : Serving) (ends : EndsWithTwo serving.moves) (seen : Seen) (p
   looked_next request (Some facts) None is x = absurd is
   looked_next request (Some facts) (Some at) is x = looked_found serving.moves ends serving.folder request seen path at facts.0 facts.1 is.0 is.1 x
 
-sees_one : (serving : Serving) (old new : Standing) (t s : List ℕ) (ended : Option Bool) (found : Option (ℕ × ℕ)) (lease : Option (List ℕ)) → EndsWithTwo serving.moves
-    → (x : SeesNext found lease old new) → IsFound serving.folder x.path found lease → Stands serving old t s ended → Stands serving new t s ended
-sees_one serving old new t s ended found lease ends x is stands =
-    restaged serving old new t s ended (ready x.a x.behind (next_seen x.seen found) x.path) (wanting x.a x.behind x.seen x.path) lease x.over x.was x.same refl refl
+sees_one : (serving : Serving) (old new : Standing) (t s : List ℕ) (ended : Option Bool) (found : Option (ℕ × ℕ)) (lease : Option (List ℕ)) (entry : Option ℕ) → EndsWithTwo serving.moves
+    → (x : SeesNext found lease entry old new) → IsFound serving.folder x.path found lease → Stands serving old t s ended → Stands serving new t s ended
+sees_one serving old new t s ended found lease entry ends x is stands =
+    restaged serving old new t s ended (ready x.a x.behind (next_seen x.seen found) x.path) (wanting x.a x.behind x.seen x.path) lease entry x.over x.was x.same refl refl
     (λ given input ahead y. y) (λ looks. looked_next serving ends x.seen x.path (request_of x.a) found lease is looks) stands
 
 -- a look was made
-pub sees_for : (moves : Moves) (folder : Option Folder) (old new : Standing) (link : LinkTold) (found : Option (ℕ × ℕ)) (lease : Option (List ℕ)) → EndsWithTwo moves
-    → (x : SeesNext found lease old new) → IfSome folder (λ f. IsFound f x.path found lease) → Represents moves folder old link → Represents moves folder new link
-sees_for moves None old new link found lease ends x is y = record {
+pub sees_for : (moves : Moves) (folder : Option Folder) (old new : Standing) (link : LinkTold) (found : Option (ℕ × ℕ)) (lease : Option (List ℕ)) (entry : Option ℕ) → EndsWithTwo moves
+    → (x : SeesNext found lease entry old new) → IfSome folder (λ f. IsFound f x.path found lease) → Represents moves folder old link → Represents moves folder new link
+sees_for moves None old new link found lease entry ends x is y = record {
   stands = tt;
   asks = subst (λ (c : Standing). AsksFor moves c.stage) (sym x.same) (next_kept (moves (request_of x.a)) x.seen found x.path (subst (λ (st : Stage). AsksFor moves st) x.was y.asks));
 }
-sees_for moves (Some f) old new link found lease ends x is y =
+sees_for moves (Some f) old new link found lease entry ends x is y =
     let serving : Serving = record { moves = moves; folder = f } in
     record {
       stands = told_kept (λ r t s. Stands serving old t s link.ended) (λ r t s. Stands serving new t s link.ended) (Some serving) link
-          (λ r t s z. sees_one serving old new t s link.ended found lease ends x is z) y.stands;
+          (λ r t s z. sees_one serving old new t s link.ended found lease entry ends x is z) y.stands;
       asks = subst (λ (c : Standing). AsksFor moves c.stage) (sym x.same) (next_kept (moves (request_of x.a)) x.seen found x.path (subst (λ (st : Stage). AsksFor moves st) x.was y.asks));
     }
 
 fails_one : (serving : Serving) (old new : Standing) (t s : List ℕ) (ended : Option Bool) (end : End) (x : FailsTo end old new) → Stands serving old t s ended → Stands serving new t s ended
 fails_one serving old new t s ended end x stands =
-    restaged serving old new t s ended (unmade end) (wanting x.a x.behind x.seen x.path) old.lease x.over x.was x.same refl refl
+    restaged serving old new t s ended (unmade end) (wanting x.a x.behind x.seen x.path) old.lease old.entry x.over x.was x.same refl refl
     (λ given input ahead y. (y.0, record { a = x.a; len = y.1.len; is_whole = y.1.is_whole })) (λ looks. tt) stands
 
 -- a look couldn't be made
@@ -92,8 +92,8 @@ fails_for moves folder old new link end x y = record {
   asks = subst (λ (c : Standing). AsksFor moves c.stage) (sym x.same) tt;
 }
 
-pub sees_nearer : (found : Option (ℕ × ℕ)) (lease : Option (List ℕ)) (old new : Standing) → SeesNext found lease old new → to_go new < to_go old
-sees_nearer found lease old new x =
+pub sees_nearer : (found : Option (ℕ × ℕ)) (lease : Option (List ℕ)) (entry : Option ℕ) (old new : Standing) → SeesNext found lease entry old new → to_go new < to_go old
+sees_nearer found lease entry old new x =
     let after : to_go new ≡ old.left * (2 * body_steps) + (2 * looks_left (next_seen x.seen found) + 1) = ap (λ (c : Standing). to_go c) x.same in
     let before : to_go old ≡ old.left * (2 * body_steps) + 2 * looks_left x.seen = ap (λ (st : Stage). old.left * (2 * body_steps) + steps_left st old.input) x.was in
     omega (arith, after, before, next_fewer x.seen found x.some)
@@ -115,8 +115,8 @@ pub absent_is : (folder : Option Folder) (wanted path : List ℕ) (lease : Optio
 absent_is None wanted path lease same absent = tt
 absent_is (Some f) wanted path lease same absent = subst (λ (p : List ℕ). file_at f p ≡ None) same absent
 
-pub sees_asked : (found : Option (ℕ × ℕ)) (lease : Option (List ℕ)) (old new : Standing) (x : SeesNext found lease old new) → path_asked old ≡ x.path
-sees_asked found lease old new x = ap (λ (st : Stage). path_asked_at st) x.was
+pub sees_asked : (found : Option (ℕ × ℕ)) (lease : Option (List ℕ)) (entry : Option ℕ) (old new : Standing) (x : SeesNext found lease entry old new) → path_asked old ≡ x.path
+sees_asked found lease entry old new x = ap (λ (st : Stage). path_asked_at st) x.was
 
 -- ---- a lease that isn't needed
 
@@ -153,18 +153,18 @@ looks_spent serving (broken at) lease none x = cc
 looks_spent serving finished lease none x = tt
 
 accounts_spent : (o : Option End) (serving : Serving) (c : Standing) (t s : List ℕ) → needs_file c.stage ≡ false → AccountsUnless o serving c t s
-    → AccountsUnless o serving (record c { lease = None }) t s
+    → AccountsUnless o serving (record c { lease = None; entry = None }) t s
 accounts_spent None serving c t s none x =
-    accounts_lies serving c (record c { lease = None }) t s (ap (λ (v : List ℕ). c.pending ++ v) (unread_spent c.stage serving.folder c.lease none)) refl refl x x.lies
+    accounts_lies serving c (record c { lease = None; entry = None }) t s (ap (λ (v : List ℕ). c.pending ++ v) (unread_spent c.stage serving.folder c.lease none)) refl refl x x.lies
     (looks_spent serving c.stage c.lease none x.looks)
 accounts_spent (Some end) serving c t s none x = tt
 
 -- the lease is given back
-pub spent_for : (moves : Moves) (folder : Option Folder) (old new : Standing) (link : LinkTold) → needs_file old.stage ≡ false → new ≡ record old { lease = None }
+pub spent_for : (moves : Moves) (folder : Option Folder) (old new : Standing) (link : LinkTold) → needs_file old.stage ≡ false → new ≡ record old { lease = None; entry = None }
     → Represents moves folder old link → Represents moves folder new link
 spent_for moves folder old new link none same y =
     subst (λ (c : Standing). Represents moves folder c link) (sym same) (record {
-      stands = told_kept (λ r t s. Stands r old t s link.ended) (λ r t s. Stands r (record old { lease = None }) t s link.ended) (serving_over moves folder) link
+      stands = told_kept (λ r t s. Stands r old t s link.ended) (λ r t s. Stands r (record old { lease = None; entry = None }) t s link.ended) (serving_over moves folder) link
           (λ r t s z. record { accounts = accounts_spent old.over r old t s none z.accounts; prefix = z.prefix; at = z.at }) y.stands;
       asks = y.asks;
     })

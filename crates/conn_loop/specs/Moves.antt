@@ -213,8 +213,8 @@ pub record ReadsPart (folder : Option Folder) (old new : Standing) (files since 
   pub read : ReadPart out files since
   pub same : new ≡ record old { stage = stage_read out at size; pending = new.pending }
 
--- the look that was asked for found this, and this is the file that is lent
-pub record SeesNext (found : Option (ℕ × ℕ)) (lease : Option (List ℕ)) (old new : Standing) : Type 0 where
+-- the look that was asked for found this, and this is the file that is lent, with the entry of its lease
+pub record SeesNext (found : Option (ℕ × ℕ)) (lease : Option (List ℕ)) (entry : Option ℕ) (old new : Standing) : Type 0 where
   pub a : Asked
   pub behind : ℕ
   pub seen : Seen
@@ -222,7 +222,7 @@ pub record SeesNext (found : Option (ℕ × ℕ)) (lease : Option (List ℕ)) (o
   pub was : old.stage ≡ wanting a behind seen path
   pub over : old.over ≡ None
   pub some : 0 < looks_left seen
-  pub same : new ≡ record old { stage = ready a behind (next_seen seen found) path; lease = lease }
+  pub same : new ≡ record old { stage = ready a behind (next_seen seen found) path; lease = lease; entry = entry }
 
 -- the look that was asked for couldn't be made
 pub record FailsTo (end : Finish) (old new : Standing) : Type 0 where

@@ -26,6 +26,8 @@ pub record Standing : Type 0 where
   pub pending : List ℕ
   -- the path of the file that is lent to it
   pub lease : Option (List ℕ)
+  -- the number of the cache's entry of that lease, where it names one
+  pub entry : Option ℕ
   -- the moments at which the final answers so far were made
   pub moments : List ℕ
   -- how many final answers may follow
@@ -39,7 +41,15 @@ pub record Standing : Type 0 where
 
 -- a connection that has read nothing and written nothing
 abbrev pub at_first : Standing
-at_first = record { input = []; stage = unread; pending = []; lease = None; moments = []; left = limit; over = None; bytes = 0; waits = 0 }
+at_first = record { input = []; stage = unread; pending = []; lease = None; entry = None; moments = []; left = limit; over = None; bytes = 0; waits = 0 }
+
+-- the lease that a connection holds: the path of its file, and its entry
+abbrev pub held_lease : Standing → Option (List ℕ) × Option ℕ
+held_lease c = (c.lease, c.entry)
+
+-- no lease is held
+abbrev pub HoldsNothing : Standing → Type 0
+HoldsNothing c = (c.lease ≡ None) × (c.entry ≡ None)
 
 -- the counts of a connection are those of its link
 pub record Counted (c : Standing) (link : LinkTold) : Type 0 where

@@ -23,7 +23,7 @@ use Rattle.warp_response.specs.declared.response.Response.{Response}
 use Rattle.warp_response.specs.Reply.{IsSendable}
 use Rattle.conn_loop.specs.Ends.{WhereTold}
 use Rattle.conn_loop.specs.Replying.{Serving}
-use Rattle.conn_loop.specs.Standing.{Standing, Accounts, AsksFor, Counted, HoldsAt, IsAsking}
+use Rattle.conn_loop.specs.Standing.{Standing, Accounts, AsksFor, Counted, HoldsAt, IsAsking, held_lease}
 
 -- what was taken is accounted for; the connection goes on, or answers a step that says so
 pub record Comes (result : Option Step) (serving : Serving) (c : Standing) (taken sent : List ℕ) (ended : Option Bool) : Type 0 where
@@ -80,10 +80,11 @@ pub record EndsWith (end : End) (result : Step) (old new : Standing) (link later
   pub stays : failing new.stage ≡ failing old.stage
   pub file : result ≢ WantFile
 
--- where a part of a call leaves a connection: it isn't over, it asks for what the application looks for, and it asks for a file
--- exactly where that is answered
+-- where a part of a call leaves a connection: it isn't over, it holds the lease that it held, it asks for what the application
+-- looks for, and it asks for a file exactly where that is answered
 pub record Proceeds (moves : Moves) (result : Option Step) (old new : Standing) : Type 0 where
   pub over : new.over ≡ old.over
+  pub lent : held_lease new ≡ held_lease old
   pub asks : AsksFor moves new.stage
   pub file : (result ≡ Some WantFile) ↔ IsAsking new
 

@@ -6,6 +6,7 @@
 ghost use Rattle.std.specs.Prelude.{◌≡◌, ◌≤◌, ◌<◌, ◌+◌, ◌-◌, ◌++◌, [], IfOk, IfSome, length, take, drop, vec_len, vec_capacity};
 ghost use Rattle.outside.specs.Causes.{GivesWithin, Read, bytes_got};
 ghost use Rattle.outside.specs.FileCauses.{PartWithin, ReadPart, ReadsFrom};
+ghost use Rattle.fd_cache.specs.Calls.{entry_of};
 ghost use Rattle.conn_loop.specs.Moves.{Takes, TakesPart, got_len, part_len};
 
 use crate::limits::{FIRST_ROOM, ROOM};
@@ -112,6 +113,7 @@ impl Buffer {
         ensures takes { TakesPart F.folder (F.file_path lease.old.file) at n result self.old self.new }
         ensures path { F.file_path lease.new.file ≡ F.file_path lease.old.file }
         ensures size { lease.new.size ≡ lease.old.size }
+        ensures entry { entry_of lease.new ≡ entry_of lease.old }
         ensures read { ReadPart result (F.told files.old) (F.told files.new) }
     {
         let (start, out) = part_behind(files, lease, at, &mut self.room, self.start, self.end, n);
@@ -282,6 +284,7 @@ fn part_behind<F: Files>(
     ensures bounded { (vec_len room.new ≤ ROOM) × (ROOM ≤ vec_capacity room.new) }
     ensures path { F.file_path lease.new.file ≡ F.file_path lease.old.file }
     ensures size { lease.new.size ≡ lease.old.size }
+    ensures entry { entry_of lease.new ≡ entry_of lease.old }
     ensures read { ReadPart result.1 (F.told files.old) (F.told files.new) }
 {
     let start_now = make_room(room, start, end, n);
@@ -306,6 +309,7 @@ fn part_at<F: Files>(
     ensures reads { IfSome F.folder (λ f. ReadsFrom f (F.file_path lease.old.file) from (take n (drop at room.new)) result) }
     ensures path { F.file_path lease.new.file ≡ F.file_path lease.old.file }
     ensures size { lease.new.size ≡ lease.old.size }
+    ensures entry { entry_of lease.new ≡ entry_of lease.old }
     ensures read { ReadPart result (F.told files.old) (F.told files.new) }
 {
     lease.read_at(files, from, &mut room[at..at + n])

@@ -41,6 +41,7 @@ pub struct Conn<F: Files> {
 
 impl<F: Files> Model for Conn<F> {
     ghost use Rattle.std.specs.Prelude.{◌≡◌, ◌≤◌, ◌+◌, vec_len, vec_capacity, option_map};
+    ghost use Rattle.fd_cache.specs.Calls.{entry_held};
     ghost use Rattle.conn_loop.specs.Standing.{Standing};
 
     ghost Value = { Standing };
@@ -52,6 +53,7 @@ impl<F: Files> Model for Conn<F> {
       stage = stage_in a.input a.path a.phase;
       pending = a.output;
       lease = option_map (λ lease. F.file_path lease.file) a.lease;
+      entry = entry_held a.lease;
       moments = a.moments.items;
       left = a.left;
       over = over_in a.phase;
@@ -86,9 +88,10 @@ impl<F: Files> Conn<F> {
         })
     }
 
-    /// The moments at which the final answers so far were made, in order.
+    /// The moments at which the final answers so far were made, in order. There are at most 1,000.
     pub fn moments(&self) -> &[u64]
-        ensures { result.now ≡ self.now.moments }
+        ensures are { result.now ≡ self.now.moments }
+        ensures few { length self.now.moments + self.now.left ≤ 1000 }
     {
         &self.moments
     }
@@ -120,6 +123,8 @@ impl<F: Files> Conn<F> {
         // What ended stays so, and touches nothing; a file is wanted exactly where one is asked for.
         ensures over { (self.new.over ≡ end_of result) × ((result ≡ Step.WantFile) ↔ IsAsking self.new) × IfSome self.old.over (λ end.
             (result ≡ Step.Done end) × (self.new ≡ self.old) × (link.new ≡ link.old) × (files.new ≡ files.old) × (clock.new ≡ clock.old)) }
+        // The lease that is held stays, and its entry.
+        ensures lends { (self.new.lease ≡ self.old.lease) × (self.new.entry ≡ self.old.entry) }
         // What the link plans and all that files tell but faults stay, no count of faults falls, and the steps left don't grow.
         ensures keeps { Keeps (L.told link.old) (L.told link.new) (F.told files.old) (F.told files.new) × (to_go self.new ≤ to_go self.old) }
     {

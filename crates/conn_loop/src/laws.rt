@@ -1,7 +1,9 @@
 //! What holds of the answers as they are defined, whatever computes them.
 ghost use Rattle.std.specs.Prelude.{◌≡◌, ◌≤◌, ◌++◌, ℕ, List, [], Option, length};
 ghost use Rattle.outside.specs.Causes.{LinkTold};
+ghost use Rattle.outside.specs.Moments.{ClockTold};
 ghost use Rattle.conn_loop.specs.Answers.{BeginsWith, IsClosed, IsOpen, answers_of, finals_of};
+ghost use Rattle.conn_loop.specs.Causes.{Clocked};
 ghost use Rattle.conn_loop.specs.Replying.{Replying};
 ghost use Rattle.outside.specs.Folder.{Folder};
 ghost use Rattle.app_trait.specs.Moves.{Moves};
@@ -39,4 +41,9 @@ pub fn nothing_is_open()
 pub fn sent_is_a_prefix()
     ensures { (moves : Moves) (folder : Option Folder) (conn : Standing) (link : LinkTold) → Represents moves folder conn link
         → SendsPrefixFor (serving_over moves folder) conn link }
+{}
+
+/// The moments of a connection only grow: those that it had stay, in their order, and those that the clock gave come behind.
+pub fn moments_grow()
+    ensures { (old new : Standing) (clock after : ClockTold) → Clocked old new clock after → BeginsWith new.moments old.moments }
 {}

@@ -16,6 +16,15 @@ number_of None = 0
 number_of (Some k) = k
 
 module _ {F X : Type 0} {G : Ghosts F X} where
+  -- the number of the entry that a lease names, where it names one
+  abbrev pub entry_of : Lease F X G → Option ℕ
+  entry_of lease = lease.entry
+
+  -- the same of a lease that is there or isn't
+  abbrev pub entry_held : Option (Lease F X G) → Option ℕ
+  entry_held None = None
+  entry_held (Some lease) = entry_of lease
+
   -- what one call and its reply come to
   abbrev pub deed_of : CacheCall F X G → CacheReply F X G → CacheDeed (Lease F X G)
   deed_of (Calls.Acquire path) (Replies.Hit lease) = Deeds.Hit (number_of lease.entry) (string_bytes path) lease

@@ -221,11 +221,12 @@ may_short {X} path f g x = elim x [
 ]
 
 -- what was supplied leads to the end that the files' answer names
-pub fails_held : {X : Type 0} (path_of : X → List ℕ) (got : Supply X) (c : Standing) (f g : ℕ) → Holds path_of got c → FailsSince (fails_by got) f g → FailsSince (failing c.stage) f g
-fails_held path_of (supply.Leased lease) c f g x since = subst (λ (o : Option Finish). FailsSince o f g) (sym x.1) since
-fails_held path_of supply.Absent c f g x since = subst (λ (o : Option Finish). FailsSince o f g) (sym x.1) since
-fails_held path_of supply.Failed c f g x since = subst (λ (o : Option Finish). FailsSince o f g) (sym x.1) since
-fails_held path_of supply.NoMemory c f g x since = subst (λ (o : Option Finish). FailsSince o f g) (sym x.1) since
+pub fails_held : {X : Type 0} (path_of : X → List ℕ) (entry_of : X → Option ℕ) (got : Supply X) (c : Standing) (f g : ℕ) → Holds path_of entry_of got c
+    → FailsSince (fails_by got) f g → FailsSince (failing c.stage) f g
+fails_held path_of entry_of (supply.Leased lease) c f g x since = subst (λ (o : Option Finish). FailsSince o f g) (sym x.2) since
+fails_held path_of entry_of supply.Absent c f g x since = subst (λ (o : Option Finish). FailsSince o f g) (sym x.1) since
+fails_held path_of entry_of supply.Failed c f g x since = subst (λ (o : Option Finish). FailsSince o f g) (sym x.1) since
+fails_held path_of entry_of supply.NoMemory c f g x since = subst (λ (o : Option Finish). FailsSince o f g) (sym x.1) since
 
 -- what is supplied by a lease that has the path, where the folder is told
 pub leased_there : (folder : Option Folder) (path wanted : List ℕ) → path ≡ wanted → IfSome folder (λ f. path ≡ wanted)

@@ -154,7 +154,7 @@ fn brought_on<L: Link, F: Files, C: Clock>(
 /// Gives a lease back that the connection doesn't need any more.
 fn give_back<F: Files>(conn: &mut Conn<F>, cache: &mut Cache<F>)
     ensures represents { (moves : Moves) (link : LinkTold) → Represents moves F.folder conn.old link → Represents moves F.folder conn.new link }
-    ensures same { conn.new ≡ record conn.old { lease = conn.new.lease } }
+    ensures same { conn.new ≡ record conn.old { lease = conn.new.lease; entry = conn.new.entry } }
     ensures spent { IsAsking conn.old → conn.new.lease ≡ None }
 {
     if let Some(lease) = conn.spent_lease() {
@@ -168,7 +168,7 @@ fn supply_wanted<F: Files>(alloc: Global, conn: &mut Conn<F>, files: &mut F, cac
     requires none_spent { conn.old.lease ≡ None }
     requires asks { AsksFor folder_move conn.old.stage }
     ensures represents { (link : LinkTold) → Represents folder_move F.folder conn.old link → Represents folder_move F.folder conn.new link }
-    ensures same { conn.new ≡ record conn.old { stage = conn.new.stage; lease = conn.new.lease } }
+    ensures same { conn.new ≡ record conn.old { stage = conn.new.stage; lease = conn.new.lease; entry = conn.new.entry } }
     ensures looked { FilesKept (F.told files.old) (F.told files.new) × FailsSince (failing conn.new.stage) (F.told files.old).faults (F.told files.new).faults }
     ensures nearer { to_go conn.new < to_go conn.old }
 {

@@ -1,8 +1,9 @@
 //! What goes between a connection and the one who keeps files.
-ghost use Rattle.std.specs.Prelude.{◌≡◌, ◌⊎◌, ◌<◌, ℕ, List, Some, None, option_map};
+ghost use Rattle.std.specs.Prelude.{◌≡◌, ◌⊎◌, ◌<◌, ◌≤◌, ℕ, List, Some, None, length, option_map};
 ghost use Rattle.outside.specs.Causes.{LinkTold};
+ghost use Rattle.fd_cache.specs.Calls.{entry_held, entry_of};
 ghost use Rattle.app_trait.specs.Moves.{EndsWithTwo, Moves};
-ghost use Rattle.conn_loop.specs.Standing.{Represents, IsAsking, path_asked};
+ghost use Rattle.conn_loop.specs.Standing.{Represents, HoldsNothing, IsAsking, path_asked};
 ghost use Rattle.conn_loop.specs.Stages.{needs_file};
 ghost use Rattle.conn_loop.specs.Phases.{stage_in};
 ghost use Rattle.conn_loop.specs.Moves.{FailsTo, SeesNext};
@@ -34,8 +35,8 @@ impl<F: Files> Conn<F> {
         requires none_spent { self.old.lease ≡ None }
         requires there { Supplies F.folder (λ lease. F.file_path lease.file) (path_asked self.old) got }
         ensures represents { (moves : Moves) (link : LinkTold) → EndsWithTwo moves → Represents moves F.folder self.old link → Represents moves F.folder self.new link }
-        ensures same { self.new ≡ record self.old { stage = self.new.stage; lease = self.new.lease } }
-        ensures holds { Holds (λ lease. F.file_path lease.file) got self.new × ¬ IsAsking self.new }
+        ensures same { self.new ≡ record self.old { stage = self.new.stage; lease = self.new.lease; entry = self.new.entry } }
+        ensures holds { Holds (λ lease. F.file_path lease.file) (λ lease. entry_of lease) got self.new × ¬ IsAsking self.new }
         ensures nearer { to_go self.new < to_go self.old }
     {
         match got {
@@ -50,7 +51,7 @@ impl<F: Files> Conn<F> {
     fn found(&mut self, lease: Lease<F>)
         requires asking { IsAsking self.old }
         requires none_spent { self.old.lease ≡ None }
-        ensures { SeesNext (Some (lease.size, lease.mtime)) (Some (F.file_path lease.file)) self.old self.new }
+        ensures { SeesNext (Some (lease.size, lease.mtime)) (Some (F.file_path lease.file)) (entry_of lease) self.old self.new }
     {
         let Phase::Wanting { head, behind, seen } = self.phase else {
             unreachable!()
@@ -68,7 +69,7 @@ impl<F: Files> Conn<F> {
     fn missed(&mut self)
         requires asking { IsAsking self.old }
         requires none_spent { self.old.lease ≡ None }
-        ensures { SeesNext None None self.old self.new }
+        ensures { SeesNext None None None self.old self.new }
     {
         let Phase::Wanting { head, behind, seen } = self.phase else {
             unreachable!()
@@ -84,8 +85,10 @@ impl<F: Files> Conn<F> {
     /// The look that was asked for couldn't be made: the connection is to end so.
     fn fail(&mut self, end: End)
         requires asking { IsAsking self.old }
+        requires none_spent { self.old.lease ≡ None }
         requires fault { (end ≡ End.FileFault) ⊎ (end ≡ End.NoMemory) }
-        ensures { FailsTo end self.old self.new }
+        ensures fails { FailsTo end self.old self.new }
+        ensures nothing { HoldsNothing self.new }
     {
         let Phase::Wanting { .. } = self.phase else {
             unreachable!()
@@ -96,8 +99,8 @@ impl<F: Files> Conn<F> {
     /// Gives a lease that isn't needed any more. The caller asks after each `advance`.
     pub fn spent_lease(&mut self) -> Option<Lease<F>>
         ensures represents { (moves : Moves) (link : LinkTold) → Represents moves F.folder self.old link → Represents moves F.folder self.new link }
-        ensures same { self.new ≡ record self.old { lease = self.new.lease } }
-        ensures given { GivesLease (option_map (λ lease. F.file_path lease.file) result) self.old self.new }
+        ensures same { self.new ≡ record self.old { lease = self.new.lease; entry = self.new.entry } }
+        ensures given { GivesLease (option_map (λ lease. F.file_path lease.file) result) (entry_held result) self.old self.new }
     {
         if needs_lease(&self.phase) {
             None
@@ -109,7 +112,8 @@ impl<F: Files> Conn<F> {
     /// Ends the connection, at any time, and gives what is left of it.
     pub fn finish(self) -> Closing<F>
         ensures lease { option_map (λ lease. F.file_path lease.file) result.lease ≡ self.lease }
-        ensures moments { result.moments.items ≡ self.moments }
+        ensures entry { entry_held result.lease ≡ self.entry }
+        ensures moments { (result.moments.items ≡ self.moments) × (length self.moments ≤ 1000) }
         ensures counts { (result.bytes ≡ self.bytes) × (result.waits ≡ self.waits) }
     {
         Closing {

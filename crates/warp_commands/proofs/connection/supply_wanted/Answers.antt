@@ -1,4 +1,5 @@
 use Rattle.std.proofs.Common.{ℕ, List, sym, subst}
+use Rattle.fd_cache.specs.Calls.{entry_of}
 use Rattle.app_trait.specs.Below.{LiesBelow}
 use Rattle.app_trait.specs.FolderLaws.{folder_ends}
 use Rattle.app_trait.specs.FolderMoves.{folder_move}
@@ -16,5 +17,5 @@ returns-clause-looked g c =
     let looked = c.found_at-got.ensures.looked in
     let below = asked_below c.args.conn.now.stage c.requires.asking c.requires.asks c.serves.ensures.below in (
       files_look c.wanted.result.now (fails_by c.found_at-got.result) old new (subst (λ (path : List ℕ). LiesBelow path) (sym c.wanted.ensures) below) looked,
-      fails_held (λ lease. g.F.Files.file_path lease.file) c.found_at-got.result c.supply.new.self old.faults new.faults c.supply.ensures.holds.0 looked.failed,
+      fails_held (λ lease. g.F.Files.file_path lease.file) (λ lease. entry_of lease) c.found_at-got.result c.supply.new.self old.faults new.faults c.supply.ensures.holds.0 looked.failed,
     )

@@ -1,5 +1,5 @@
-use Rattle.std.proofs.Common.{◌≡◌, ◌∙◌, ap, sym, refl, arith, None, Some}
-use Rattle.conn_loop.specs.Standing.{Standing}
+use Rattle.std.proofs.Common.{◌≡◌, ◌∙◌, ap, sym, refl, arith, ℕ, List, Option, None, Some}
+use Rattle.conn_loop.specs.Standing.{Standing, held_lease}
 use Rattle.conn_loop.proofs.CauseLemmas.{clocked_kept, clocked_none, files_none}
 use Rattle.conn_loop.proofs.KeptLemmas.{caused_of, counted_of, if_ended, if_none, if_over, if_some, kept_asks, kept_fewer, kept_file}
 use Rattle.conn_loop.proofs.StepLemmas.{implied_for, kept_for, open_for, over_for}
@@ -69,3 +69,8 @@ returns-clause-keeps g c = (
   c.go_on-step.ensures.goes.keeps,
   omega (arith, kept_fewer c.go_on-step.result c.go_on-step.new.self c.keep.new.self c.keep.ensures, c.go_on-step.ensures.nearer),
 )
+
+pub returns-clause-lends : goal.returns-clause-lends
+returns-clause-lends g c =
+    let lent : held_lease c.keep.new.self ≡ held_lease c.args.self.now = ap (λ (s : Standing). held_lease s) c.keep.ensures ∙ c.go_on-step.ensures.proceeds.lent in
+    (ap (λ (l : Option (List ℕ) × Option ℕ). l.0) lent, ap (λ (l : Option (List ℕ) × Option ℕ). l.1) lent)

@@ -1,6 +1,6 @@
 use Rattle.std.proofs.Common.{◌≡◌, ◌<◌, ◌≤◌, ◌∙◌, ap, sym, subst, arith, ℕ, List, [], ◌∷◌, ◌++◌, length, None, Some}
 use Rattle.conn_loop.specs.Stages.{Stage, failing, refusing, steps_left}
-use Rattle.conn_loop.specs.Standing.{AsksFor, IsAskingStage, Standing}
+use Rattle.conn_loop.specs.Standing.{AsksFor, IsAskingStage, Standing, held_lease}
 use Rattle.conn_loop.specs.Steps.{IsPlain, to_go}
 use Rattle.conn_loop.specs.Replying.{serving_over}
 use Rattle.conn_loop.proofs.CauseLemmas.{clocked_none, clocked_one, clocked_same, goes_on, goes_still}
@@ -42,6 +42,7 @@ pub returns-in-Unread-clause-proceeds : goal.returns-in-Unread-clause-proceeds
 returns-in-Unread-clause-proceeds g c =
     proceeds_quiet (g.A.App.moves c.args.app.now) c.args.self.now c.judge.new.self
     (ap (λ (s : Standing). s.over) c.judge.ensures.same ∙ ap (λ (s : Standing). s.over) c.look.ensures.same ∙ ap (λ (s : Standing). s.over) c.make_room.ensures.same)
+    (ap (λ (s : Standing). held_lease s) c.judge.ensures.same ∙ ap (λ (s : Standing). held_lease s) c.look.ensures.same ∙ ap (λ (s : Standing). held_lease s) c.make_room.ensures.same)
     (c.judge.ensures.plain.1 (g.A.App.moves c.args.app.now)) (plain_quiet c.judge.new.self.stage c.judge.ensures.plain.0).0
 
 pub returns-in-Unread-clause-nearer : goal.returns-in-Unread-clause-nearer
@@ -79,6 +80,7 @@ returns-in-Unfinished-clause-stands g c = λ x.
 pub returns-in-Unfinished-clause-proceeds : goal.returns-in-Unfinished-clause-proceeds
 returns-in-Unfinished-clause-proceeds g c = record {
   over = ap (λ (s : Standing). s.over) c.read_more.ensures.same ∙ ap (λ (s : Standing). s.over) c.look.ensures.same ∙ ap (λ (s : Standing). s.over) c.make_room.ensures.same;
+  lent = ap (λ (s : Standing). held_lease s) c.read_more.ensures.same ∙ ap (λ (s : Standing). held_lease s) c.look.ensures.same ∙ ap (λ (s : Standing). held_lease s) c.make_room.ensures.same;
   asks = c.read_more.ensures.plain.1 (g.A.App.moves c.args.app.now);
   file = (c.read_more.ensures.goes.file, (λ asking. absurd ((plain_quiet c.read_more.new.self.stage c.read_more.ensures.plain.0).0 asking)));
 }
@@ -131,6 +133,7 @@ returns-in-Refused-clause-proceeds g c =
     let stage : c.refuse.new.self.stage ≡ refusing c.in-Refused.code = ap (λ (s : Standing). s.stage) c.refuse.ensures.1 ∙ c.in-Refused.ensures.is.0 in
     proceeds_quiet (g.A.App.moves c.args.app.now) c.args.self.now c.refuse.new.self
     (ap (λ (s : Standing). s.over) c.refuse.ensures.1 ∙ ap (λ (s : Standing). s.over) c.look.ensures.same ∙ ap (λ (s : Standing). s.over) c.make_room.ensures.same)
+    (ap (λ (s : Standing). held_lease s) c.refuse.ensures.1 ∙ ap (λ (s : Standing). held_lease s) c.look.ensures.same ∙ ap (λ (s : Standing). held_lease s) c.make_room.ensures.same)
     (subst (λ (st : Stage). AsksFor (g.A.App.moves c.args.app.now) st) (sym stage) tt) (λ asks. subst (λ (st : Stage). IsAskingStage st) stage asks)
 
 pub returns-in-Refused-clause-nearer : goal.returns-in-Refused-clause-nearer
@@ -176,7 +179,8 @@ returns-in-Whole-clause-stands g c = λ x.
 pub returns-in-Whole-clause-proceeds : goal.returns-in-Whole-clause-proceeds
 returns-in-Whole-clause-proceeds g c =
     proceeds_then (g.A.App.moves c.args.app.now) c.respond.result c.args.self.now c.look.new.self c.respond.new.self
-    (ap (λ (s : Standing). s.over) c.look.ensures.same ∙ ap (λ (s : Standing). s.over) c.make_room.ensures.same) c.respond.ensures.proceeds
+    (ap (λ (s : Standing). s.over) c.look.ensures.same ∙ ap (λ (s : Standing). s.over) c.make_room.ensures.same)
+    (ap (λ (s : Standing). held_lease s) c.look.ensures.same ∙ ap (λ (s : Standing). held_lease s) c.make_room.ensures.same) c.respond.ensures.proceeds
 
 pub returns-in-Whole-clause-nearer : goal.returns-in-Whole-clause-nearer
 returns-in-Whole-clause-nearer g c =

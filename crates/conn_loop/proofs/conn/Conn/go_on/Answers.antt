@@ -8,6 +8,7 @@ requests-init g c = record {
   stands = c.requires.stands;
   asks = c.requires.asks;
   over = refl;
+  lent = refl;
   nearer = omega arith;
   clocked = clocked_none c.args.self.now c.args.self.now _ refl;
   goes = goes_none c.args.self.now (g.L.Link.told c.args.link.now) (g.F.Files.told c.args.files.now);
@@ -23,6 +24,7 @@ requests-preserved g c =
       stands = c.in_default.ensures.stands was.stands;
       asks = c.in_default.ensures.proceeds.asks;
       over = c.in_default.ensures.proceeds.over ∙ was.over;
+      lent = c.in_default.ensures.proceeds.lent ∙ was.lent;
       nearer = omega (arith, was.nearer, c.in_default.ensures.nearer.0);
       clocked = clocked_then c.args.self.now c.requests.self c.step.new.self _ _ _ was.clocked c.step.ensures.clocked;
       goes = goes_then None c.args.self.now c.requests.self c.step.new.self (g.L.Link.told c.args.link.now) (g.L.Link.told c.requests.link) (g.L.Link.told c.step.new.link)
@@ -37,7 +39,7 @@ returns-in-Some-clause-stands g c = c.in-Some.ensures.stands c.requests.invarian
 
 pub returns-in-Some-clause-proceeds : goal.returns-in-Some-clause-proceeds
 returns-in-Some-clause-proceeds g c =
-    proceeds_then (g.A.App.moves c.args.app.now) (Some c.in-Some.step) c.args.self.now c.requests.self c.step.new.self c.requests.invariant.over c.in-Some.ensures.proceeds
+    proceeds_then (g.A.App.moves c.args.app.now) (Some c.in-Some.step) c.args.self.now c.requests.self c.step.new.self c.requests.invariant.over c.requests.invariant.lent c.in-Some.ensures.proceeds
 
 pub returns-in-Some-clause-nearer : goal.returns-in-Some-clause-nearer
 returns-in-Some-clause-nearer g c = omega (arith, c.requests.invariant.nearer, c.in-Some.ensures.nearer.0)

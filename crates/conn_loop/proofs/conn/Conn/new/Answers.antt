@@ -11,6 +11,7 @@ returns-clause-represents g c = λ moves link fresh.
       stage = unread;
       pending = c.in_ok-output.ensures i;
       lease = None;
+      entry = None;
       moments = c.in_ok-moments.ensures.items i;
       left = 1000;
       over = None;

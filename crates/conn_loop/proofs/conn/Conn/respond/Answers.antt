@@ -2,7 +2,7 @@ use Rattle.std.proofs.Common.{◌≡◌, ◌<◌, ◌≤◌, ◌∙◌, ap, sym,
 use Rattle.conn_loop.specs.declared.step.Step.TheVariants.{WantFile}
 use Rattle.conn_loop.specs.Moves.{stage_behind}
 use Rattle.conn_loop.specs.Stages.{Stage, failing, IsReadyStage}
-use Rattle.conn_loop.specs.Standing.{AsksFor, IsAsking, IsAskingStage, Standing}
+use Rattle.conn_loop.specs.Standing.{AsksFor, IsAsking, IsAskingStage, Standing, held_lease}
 use Rattle.conn_loop.specs.Steps.{to_go}
 use Rattle.conn_loop.proofs.CauseLemmas.{clocked_none, clocked_one, goes_on, goes_still, goes_asks}
 use Rattle.conn_loop.proofs.MeasureLemmas.{to_go_same, asks_nearer}
@@ -34,6 +34,7 @@ returns-in-Look-clause-stands g c = λ x.
 pub returns-in-Look-clause-proceeds : goal.returns-in-Look-clause-proceeds
 returns-in-Look-clause-proceeds g c = record {
   over = ap (λ (s : Standing). s.over) c.in-Look.ensures.same ∙ ap (λ (s : Standing). s.over) c.make_way.ensures.same;
+  lent = ap (λ (s : Standing). held_lease s) c.in-Look.ensures.same ∙ ap (λ (s : Standing). held_lease s) c.make_way.ensures.same;
   asks = subst (λ (s : Standing). AsksFor (g.A.App.moves c.args.app.now) s.stage) (sym c.in-Look.ensures.same) c.in-Look.ensures.looks;
   file = ((λ e. subst (λ (s : Standing). IsAsking s) (sym c.in-Look.ensures.same) tt), (λ e. refl));
 }
@@ -73,6 +74,7 @@ returns-in-Answer-clause-proceeds g c =
     let stage : c.answer.new.self.stage ≡ stage_behind c.in-Answer.response.content = ap (λ (s : Standing). s.stage) c.answer.ensures.1.same in
     proceeds_quiet (g.A.App.moves c.args.app.now) c.args.self.now c.answer.new.self
     (ap (λ (s : Standing). s.over) c.answer.ensures.1.same ∙ ap (λ (s : Standing). s.over) c.in-Answer.ensures.same ∙ ap (λ (s : Standing). s.over) c.make_way.ensures.same)
+    (ap (λ (s : Standing). held_lease s) c.answer.ensures.1.same ∙ ap (λ (s : Standing). held_lease s) c.in-Answer.ensures.same ∙ ap (λ (s : Standing). held_lease s) c.make_way.ensures.same)
     (subst (λ (st : Stage). AsksFor (g.A.App.moves c.args.app.now) st) (sym stage) (quiet.2 (g.A.App.moves c.args.app.now)))
     (λ asks. quiet.0 (subst (λ (st : Stage). IsAskingStage st) stage asks))
 

@@ -2,7 +2,7 @@ use Rattle.std.proofs.Common.{◌≡◌, ◌∙◌, ap, sym, subst, refl, arith,
 use Rattle.conn_loop.specs.declared.step.Step.{Step}
 use Rattle.conn_loop.specs.Replying.{serving_over}
 use Rattle.conn_loop.specs.Stages.{Stage}
-use Rattle.conn_loop.specs.Standing.{AsksFor, IsAskingStage, Standing}
+use Rattle.conn_loop.specs.Standing.{AsksFor, IsAskingStage, Standing, held_lease}
 use Rattle.conn_loop.specs.Steps.{to_go}
 use Rattle.conn_loop.proofs.CauseLemmas.{clocked_none, ends_over, end_fault, goes_over, goes_waits}
 use Rattle.conn_loop.proofs.MeasureLemmas.{to_go_same}
@@ -19,7 +19,7 @@ pub returns-in-Wait-clause-stands : goal.returns-in-Wait-clause-stands
 returns-in-Wait-clause-stands g c = λ x. waits_for (serving_over (g.A.App.moves c.args.app.now) g.F.Files.folder) c.args.self.now (g.L.Link.told c.args.link.now) c.in-Wait.ensures.0 c.in-Wait.ensures.1 x
 
 pub returns-in-Wait-clause-proceeds : goal.returns-in-Wait-clause-proceeds
-returns-in-Wait-clause-proceeds g c = record { over = refl; asks = c.requires.asks; file = ((λ e. c.in-Wait.ensures.0), (λ asks. refl)) }
+returns-in-Wait-clause-proceeds g c = record { over = refl; lent = refl; asks = c.requires.asks; file = ((λ e. c.in-Wait.ensures.0), (λ asks. refl)) }
 
 pub returns-in-Wait-clause-nearer : goal.returns-in-Wait-clause-nearer
 returns-in-Wait-clause-nearer g c = (omega arith, tt)
@@ -36,6 +36,7 @@ returns-in-Send-clause-stands g c = λ x. c.send_part.ensures.stands (g.A.App.mo
 pub returns-in-Send-clause-proceeds : goal.returns-in-Send-clause-proceeds
 returns-in-Send-clause-proceeds g c = record {
   over = ap (λ (s : Standing). s.over) c.send_part.ensures.same;
+  lent = ap (λ (s : Standing). held_lease s) c.send_part.ensures.same;
   asks = sending_asks (g.A.App.moves c.args.app.now) c.send_part.new.self.stage c.send_part.ensures.stage;
   file = (c.send_part.ensures.goes.file, (λ asks. absurd (sending_quiet c.send_part.new.self.stage c.send_part.ensures.stage asks)));
 }
@@ -51,6 +52,7 @@ returns-in-End-clause-proceeds g c =
     let stage : c.end.new.self.stage ≡ c.args.self.now.stage = ap (λ (s : Standing). s.stage) c.end.ensures.same in
     record {
       over = ap (λ (s : Standing). s.over) c.end.ensures.same;
+      lent = ap (λ (s : Standing). held_lease s) c.end.ensures.same;
       asks = subst (λ (st : Stage). AsksFor (g.A.App.moves c.args.app.now) st) (sym stage) c.requires.asks;
       file = ((λ e. absurd (c.end.ensures.goes.file cc)), (λ asks. absurd (c.in-End.ensures.1 (subst (λ (st : Stage). IsAskingStage st) stage asks))));
     }
