@@ -1,8 +1,10 @@
 -- The Connection lines, one more at a time.
-use Rattle.std.proofs.Common.{◌≡◌, ℕ, true, false, List, [], ◌∷◌, ◌++◌, ap, ◌∙◌}
+use Rattle.std.proofs.Common.{◌≡◌, ℕ, Bool, true, false, ◌||◌, List, [], ◌∷◌, ◌++◌, refl, ap, ◌∙◌}
+use Rattle.warp_request.specs.declared.connection.ConnectionLines.{ConnectionLines}
 use Rattle.std.specs.Str.{str_eq_ignore_ascii_case}
+use Rattle.httparse.specs.Grammar.{trim_ows}
 use Rattle.warp_request.specs.LimitsAndWords.{connection_name, close_word, keep_alive_word}
-use Rattle.warp_request.specs.Fields.{values_of}
+use Rattle.warp_request.specs.Fields.{values_of, has_word}
 use Rattle.warp_request.specs.NamedLines.{connection_lines, connection_with}
 use Rattle.warp_request.proofs.FieldLemmas.{values_of-same, values_of-other, has_member-push}
 
@@ -24,3 +26,29 @@ connection_lines-same fields name value same =
 pub connection_lines-other : (fields : List (List ℕ × List ℕ)) (name value : List ℕ) → str_eq_ignore_ascii_case name connection_name ≡ false
     → connection_lines (values_of connection_name (fields ++ (name, value) ∷ [])) ≡ connection_lines (values_of connection_name fields)
 connection_lines-other fields name value other = ap connection_lines (values_of-other connection_name fields (name, value) other)
+
+or_false : (b : Bool) → (b || false) ≡ b
+or_false true = refl
+or_false false = refl
+
+or_true : (b : Bool) → (b || true) ≡ true
+or_true true = refl
+or_true false = refl
+
+-- which of the two words `keep-alive` has
+keeps_alone : has_word keep_alive_word keep_alive_word ≡ true
+unfolding has_word trim_ows
+keeps_alone = refl
+
+closes_not : has_word close_word keep_alive_word ≡ false
+unfolding has_word trim_ows
+closes_not = refl
+
+-- `keep-alive` and nothing else
+pub kept_alone : (lines : ConnectionLines) (value : List ℕ) → value ≡ keep_alive_word → record lines { keep_alive = true } ≡ connection_with lines value
+kept_alone lines value is =
+    let close : (lines.close || has_word close_word value) ≡ lines.close =
+    ap (λ (v : List ℕ). lines.close || has_word close_word v) is ∙ ap (λ (b : Bool). lines.close || b) closes_not ∙ or_false lines.close in
+    let keep : (lines.keep_alive || has_word keep_alive_word value) ≡ true =
+    ap (λ (v : List ℕ). lines.keep_alive || has_word keep_alive_word v) is ∙ ap (λ (b : Bool). lines.keep_alive || b) keeps_alone ∙ or_true lines.keep_alive in
+    cc

@@ -14,10 +14,16 @@ pub(crate) struct ConnectionLines {
 }
 
 impl ConnectionLines {
-    /// With one more line.
+    /// With one more line. Most clients send `keep-alive` and nothing else, which needs no list.
     pub(crate) fn with_value(self, value: &[u8]) -> ConnectionLines
         ensures { result ≡ connection_with self value.now }
     {
+        if value == KEEP_ALIVE {
+            return ConnectionLines {
+                keep_alive: true,
+                ..self
+            };
+        }
         ConnectionLines {
             close: self.close || has_word(value, CLOSE),
             keep_alive: self.keep_alive || has_word(value, KEEP_ALIVE),

@@ -44,38 +44,23 @@ impl<'a> NamedLines<'a> {
     {
         let mut lines = NO_LINES;
         for field in fields {
-            lines = lines.with(field.name.of(bytes), field.value.of(bytes));
+            lines.add(field.name.of(bytes), field.value.of(bytes));
         }
         lines
     }
 
-    /// With one more field.
-    fn with(self, name: &[u8], value: &'a [u8]) -> NamedLines<'a>
-        ensures { (fields : List (List ℕ × List ℕ)) → lines_shown self.entry ≡ named_lines fields
-            → lines_shown result ≡ named_lines (fields ++ (name.now, value.now) ∷ []) }
+    /// Adds one more field. Most fields decide nothing, and touch nothing here.
+    fn add(&mut self, name: &[u8], value: &'a [u8])
+        ensures { (fields : List (List ℕ × List ℕ)) → lines_shown self.old ≡ named_lines fields
+            → lines_shown self.new ≡ named_lines (fields ++ (name.now, value.now) ∷ []) }
     {
         match known_name(name) {
-            KnownName::Host => NamedLines {
-                host: self.host.with_value(value),
-                ..self
-            },
-            KnownName::Connection => NamedLines {
-                connection: self.connection.with_value(value),
-                ..self
-            },
-            KnownName::TransferEncoding => NamedLines {
-                codings: self.codings.with_value(value),
-                ..self
-            },
-            KnownName::ContentLength => NamedLines {
-                lengths: self.lengths.with_value(value),
-                ..self
-            },
-            KnownName::Expect => NamedLines {
-                expect: self.expect.with_value(value),
-                ..self
-            },
-            KnownName::Other => self,
+            KnownName::Host => self.host = self.host.with_value(value),
+            KnownName::Connection => self.connection = self.connection.with_value(value),
+            KnownName::TransferEncoding => self.codings = self.codings.with_value(value),
+            KnownName::ContentLength => self.lengths = self.lengths.with_value(value),
+            KnownName::Expect => self.expect = self.expect.with_value(value),
+            KnownName::Other => {}
         }
     }
 

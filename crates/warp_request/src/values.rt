@@ -1,5 +1,6 @@
 // Values of fields: words without regard to case, lists cut at commas (RFC 9110, section 5.6).
-ghost use Rattle.std.specs.Prelude.{◌≡◌, reverse};
+ghost use Rattle.std.specs.Prelude.{◌≡◌, ◌||◌, reverse};
+ghost use Rattle.std.specs.Char.{is_ascii_alphanumeric};
 ghost use Rattle.std.specs.List.{list_all};
 ghost use Rattle.std.specs.Str.{str_eq_ignore_ascii_case};
 ghost use Rattle.httparse.specs.Grammar.{skip_ows, trim_ows};
@@ -51,8 +52,33 @@ pub(crate) fn has_word(value: &[u8], word: &[u8]) -> bool
         .any(|member| is_same_word(trim(member), word))
 }
 
-/// The marks that a host and port may have beside letters and digits.
-const HOST_MARKS: &[u8] = b"-._~!$&'()*+,;=%:[]";
+/// Whether a byte is one of the marks that a host and port may have beside letters and digits.
+#[tactic(auto, unfolding(crate::specs::Fields::is_host_byte))]
+fn is_host_mark(b: u8) -> bool
+    ensures { (is_ascii_alphanumeric b || result) ≡ is_byte_of_host b }
+{
+    matches!(
+        b,
+        b'-' | b'.'
+            | b'_'
+            | b'~'
+            | b'!'
+            | b'$'
+            | b'&'
+            | b'\''
+            | b'('
+            | b')'
+            | b'*'
+            | b'+'
+            | b','
+            | b';'
+            | b'='
+            | b'%'
+            | b':'
+            | b'['
+            | b']'
+    )
+}
 
 /// Whether each byte may stand in a host and port (RFC 3986, section 3.2.2).
 #[tactic(auto, unfolding(crate::specs::Fields::is_host_byte))]
@@ -61,5 +87,5 @@ pub(crate) fn is_host(value: &[u8]) -> bool
 {
     value
         .iter()
-        .all(|b| b.is_ascii_alphanumeric() || HOST_MARKS.contains(b))
+        .all(|b| b.is_ascii_alphanumeric() || is_host_mark(*b))
 }
