@@ -7,8 +7,9 @@ use Rattle.std.specs.Str.Lines.{strip_carriage_return}
 use Rattle.std.proofs.lemmas.Bool.{both_ways, ne_eqb}
 use Rattle.std.proofs.lemmas.List.Elements.{All-head, All-tail, All-append, All-cons, All-nil, All-weaker, All-get_or}
 use Rattle.std.proofs.lemmas.List.Prefix.{end_rest}
+use Rattle.std.proofs.lemmas.List.Folds.{list_any-append}
 use Rattle.std.proofs.lemmas.List.Sums.{AllPass-from_list_all}
-use Rattle.httparse.specs.Grammar.{RequestHead, IsRequestHead, NeverHasRequest, print_request, print_end, print_version, print_section, print_field, Field, IsField, LineEnd, crlf, lf, AllPass, is_token_byte, is_uri_byte, is_value_byte, is_ows}
+use Rattle.httparse.specs.Grammar.{RequestHead, IsRequestHead, NeverHasRequest, ReadsRequest, print_request, print_end, print_version, print_section, print_field, Field, IsField, LineEnd, crlf, lf, AllPass, is_token_byte, is_uri_byte, is_value_byte, is_ows}
 use Rattle.httparse.specs.Pieces.{is_newline}
 use Rattle.httparse.proofs.PieceLemmas.{token_is_no_newline, space_ends_token, colon_ends_token}
 use Rattle.httparse.proofs.GrammarLemmas.{print_request-append}
@@ -258,16 +259,43 @@ skip_token : (method t : List ℕ) → 0 < length method → AllPass is_token_by
 skip_token [] t some token = absurd (omega (arith, some))
 skip_token (b ∷ method) t some token = skip_other b (method ++ t) (token_is_no_newline b (All-head (λ v. is_token_byte v ≡ true) b method token))
 
--- the lines of a head are right
-request_lines : (h : RequestHead) (rest : List ℕ) → IsRequestHead h → are_lines_right (lines_from [] (skip_empty (print_request h ++ rest))) ≡ true
-request_lines h rest is =
-    let later = flat_map print_field h.fields ++ (print_end h.last ++ rest) in
-    let line = request_text h.method h.target h.minor in
+-- the lines of a head behind its request line, and what follows it
+abbrev lines_behind : RequestHead → List ℕ → List ℕ
+lines_behind h rest = flat_map print_field h.fields ++ (print_end h.last ++ rest)
+
+-- behind the empty lines a head begins with its request line
+request_front : (h : RequestHead) (rest : List ℕ) → IsRequestHead h
+    → skip_empty (print_request h ++ rest) ≡ request_text h.method h.target h.minor ++ (print_end h.line_end ++ lines_behind h rest)
+request_front h rest is =
     let behind : List ℕ = 32 ∷ (h.target ++ 32 ∷ (print_version h.minor ++ (print_end h.line_end ++ (print_section h.fields h.last ++ rest)))) in
     let front : skip_empty (print_request h ++ rest) ≡ h.method ++ behind =
     ap (λ (t : List ℕ). skip_empty t) (print_request-append h rest) ∙ skip_blank h.blank (h.method ++ behind) ∙ skip_token h.method behind is.method.0 is.method.1 in
-    let text : h.method ++ behind ≡ line ++ (print_end h.line_end ++ later) = simp append_assoc in
-    ap (λ (t : List ℕ). are_lines_right (lines_from [] t)) (front ∙ text)
+    let text : h.method ++ behind ≡ request_text h.method h.target h.minor ++ (print_end h.line_end ++ lines_behind h rest) = simp append_assoc in
+    front ∙ text
+
+end_there : (e : LineEnd) (s : List ℕ) → list_any (λ b. b == 10) (print_end e ++ s) ≡ true
+end_there crlf s = refl
+end_there lf s = refl
+
+or_there : (a b : Bool) → b ≡ true → (a || b) ≡ true
+or_there true b is = refl
+or_there false b is = is
+
+-- where a head is at the front, a line's end is there
+pub whole_line : (w : List ℕ) (h : RequestHead) (rest : List ℕ) → ReadsRequest w h rest → has_line w ≡ true
+unfolding has_line
+whole_line w h rest x =
+    let line = request_text h.method h.target h.minor in
+    let behind = print_end h.line_end ++ lines_behind h rest in
+    ap (λ (t : List ℕ). list_any (λ b. b == 10) (skip_empty t)) x.1 ∙ ap (λ (t : List ℕ). list_any (λ b. b == 10) t) (request_front h rest x.0)
+    ∙ list_any-append (λ b. b == 10) line behind ∙ or_there (list_any (λ b. b == 10) line) (list_any (λ b. b == 10) behind) (end_there h.line_end (lines_behind h rest))
+
+-- the lines of a head are right
+request_lines : (h : RequestHead) (rest : List ℕ) → IsRequestHead h → are_lines_right (lines_from [] (skip_empty (print_request h ++ rest))) ≡ true
+request_lines h rest is =
+    let later = lines_behind h rest in
+    let line = request_text h.method h.target h.minor in
+    ap (λ (t : List ℕ). are_lines_right (lines_from [] t)) (request_front h rest is)
     ∙ ap are_lines_right (line_ended line h.line_end later (request_inner h is))
     ∙ request_right h.method h.target h.minor (lines_from [] later) is.method.0 is.minor (section_lines h.fields h.last rest is.fields)
 

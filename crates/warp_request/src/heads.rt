@@ -1,4 +1,4 @@
-// Reading a head: first its request line has to be there, then the parser decides, then the checks.
+// Reading a head: the parser decides, and then the checks. Where no head is whole, the request line has to be there first.
 ghost use Rattle.std.specs.Prelude.{◌≡◌, ◌≤◌, ◌<◌, length};
 ghost use Rattle.warp_request.specs.Laws.{TellsOf, StaysSettled};
 ghost use Rattle.warp_request.specs.Next.{next_of, window_of, waits};
@@ -15,6 +15,7 @@ use httparse::spans::{HeaderSpan, parse_request};
 use warp_response::status::{BAD_REQUEST, HEADER_FIELDS_TOO_LARGE, URI_TOO_LONG};
 
 /// What the parser says of a window.
+#[derive(Clone, Copy)]
 pub(crate) enum Parsed {
     /// A head is at its front, and this is the verdict on it.
     Whole(Next),
@@ -36,11 +37,9 @@ pub fn next(bytes: &[u8], scratch: &mut Scratch) -> Next
     ensures stays { StaysSettled bytes.now }
 {
     let window = window(bytes);
-    if !has_line(window) {
-        return more_or(URI_TOO_LONG, bytes);
-    }
     match read_head(window, &mut scratch.fields) {
         Parsed::Whole(verdict) => verdict,
+        _ if !has_line(window) => more_or(URI_TOO_LONG, bytes),
         Parsed::Cut => more_or(HEADER_FIELDS_TOO_LARGE, bytes),
         Parsed::Wrong => Next::Refuse(BAD_REQUEST),
     }
