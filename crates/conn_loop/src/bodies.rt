@@ -30,6 +30,7 @@ pub(crate) fn most_bytes(framing: Framing) -> u64
 
 /// Reads on in the body behind the head at the front of the input, and says where that leads. The bytes that belong to it
 /// are forgotten unless it came to its end.
+#[inline(always)]
 pub(crate) fn read_on(
     input: &mut Buffer,
     head: HeadInfo,

@@ -47,12 +47,15 @@ impl<F: Files> Conn<F> {
         ensures nearer { to_go self.new ≤ to_go self.old }
         ensures same { self.new ≡ record self.old { input = self.new.input; stage = self.new.stage } }
     {
-        match mem::replace(&mut self.phase, Phase::Fresh) {
-            Phase::Reading { head, reader, room } => {
-                self.phase = read_on(&mut self.input, head, reader, room);
-            }
-            phase => self.phase = phase,
-        }
+        // Most requests have no body, and then the phase isn't moved.
+        let Phase::Reading { .. } = self.phase else {
+            return;
+        };
+        let Phase::Reading { head, reader, room } = mem::replace(&mut self.phase, Phase::Fresh)
+        else {
+            unreachable!()
+        };
+        self.phase = read_on(&mut self.input, head, reader, room);
     }
 
     /// What is ahead where all of a body that came was read.

@@ -53,14 +53,13 @@ impl<F: Files> Conn<F> {
         let Phase::Sending { at, size } = self.phase else {
             unreachable!()
         };
-        let Some(mut lease) = self.lease.take() else {
+        let room = least(PIECE, ROOM - self.output.bytes().len());
+        let Some(lease) = &mut self.lease else {
             unreachable!()
         };
-        let room = least(PIECE, ROOM - self.output.bytes().len());
         let part = self
             .output
-            .part(files, &mut lease, at, least(room, (size - at) as usize));
-        self.lease = Some(lease);
+            .part(files, lease, at, least(room, (size - at) as usize));
         self.phase = phase_read(part, at, size);
     }
 }
