@@ -113,13 +113,12 @@ fn served<L: Link, F: Files, C: Clock>(
         &mut cache,
     );
     let Closing { lease, .. } = conn.finish();
-    if let Some(lease) = lease {
-        release_own(&mut cache, lease);
-    }
+    give_back(&mut cache, lease);
     status_of(step)
 }
 
-/// Brings a connection on until the link must be waited for or the connection is over. Each file that it wants is supplied.
+/// Brings a connection on until the link must be waited for or the connection is over. Each file that it wants is supplied:
+/// the one whose lease was spent just now, where that is the one.
 fn brought_on<L: Link, F: Files, C: Clock>(
     alloc: Global,
     conn: &mut Conn<F>,
@@ -140,10 +139,11 @@ fn brought_on<L: Link, F: Files, C: Clock>(
 {
     'files: loop {
         let step = conn.advance(link, files, &FolderApp, clock, scratch);
-        give_back(conn, cache);
+        let spent = conn.spent_lease();
         match step {
-            Step::WantFile => supply_wanted(alloc, conn, files, cache),
+            Step::WantFile => supply_wanted(alloc, conn, files, cache, spent),
             step => {
+                give_back(cache, spent);
                 sent_is_a_prefix();
                 return step;
             }
@@ -151,19 +151,21 @@ fn brought_on<L: Link, F: Files, C: Clock>(
     }
 }
 
-/// Gives a lease back that the connection doesn't need any more.
-fn give_back<F: Files>(conn: &mut Conn<F>, cache: &mut Cache<F>)
-    ensures represents { (moves : Moves) (link : LinkTold) → Represents moves F.folder conn.old link → Represents moves F.folder conn.new link }
-    ensures same { conn.new ≡ record conn.old { lease = conn.new.lease; entry = conn.new.entry } }
-    ensures spent { IsAsking conn.old → conn.new.lease ≡ None }
-{
-    if let Some(lease) = conn.spent_lease() {
+/// Gives a lease back, where there is one.
+fn give_back<F: Files>(cache: &mut Cache<F>, spent: Option<Lease<F>>) {
+    if let Some(lease) = spent {
         release_own(cache, lease);
     }
 }
 
-/// Supplies the file that the connection wants.
-fn supply_wanted<F: Files>(alloc: Global, conn: &mut Conn<F>, files: &mut F, cache: &mut Cache<F>)
+/// Supplies the file that the connection wants. The lease that it spent before is supplied again or given back.
+fn supply_wanted<F: Files>(
+    alloc: Global,
+    conn: &mut Conn<F>,
+    files: &mut F,
+    cache: &mut Cache<F>,
+    spent: Option<Lease<F>>,
+)
     requires asking { IsAsking conn.old }
     requires none_spent { conn.old.lease ≡ None }
     requires asks { AsksFor folder_move conn.old.stage }
@@ -174,20 +176,28 @@ fn supply_wanted<F: Files>(alloc: Global, conn: &mut Conn<F>, files: &mut F, cac
 {
     // The law that what the folder's application looks for lies below the folder.
     FolderApp.serves();
-    let got = found_at(alloc, conn.wanted(), files, cache);
+    let got = found_at(alloc, conn.wanted(), files, cache, spent);
     conn.supply(got);
 }
 
-/// What is at a path: a file that stays open, or what a look finds.
+/// What is at a path: the file of the lease that was spent, one that stays open, or what a look finds. A lease of another
+/// path is given back.
 fn found_at<F: Files>(
     alloc: Global,
     path: &str,
     files: &mut F,
     cache: &mut Cache<F>,
+    spent: Option<Lease<F>>,
 ) -> Supply<Lease<F>>
     ensures there { Supplies F.folder (λ lease. F.file_path lease.file) path.now result }
     ensures looked { MayLook path.now (fails_by result) (F.told files.old) (F.told files.new) }
 {
+    if let Some(lease) = spent {
+        if F::is_at(&lease.file, path) {
+            return Supply::Leased(lease);
+        }
+        release_own(cache, lease);
+    }
     match acquire_own(alloc, cache, path, files) {
         Acquired::Leased(lease) => Supply::Leased(lease),
         Acquired::Absent => Supply::Absent,

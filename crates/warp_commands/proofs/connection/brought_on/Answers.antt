@@ -11,13 +11,13 @@ files-preserved g c =
     let link = g.L.Link.told c.advance-step.new.link in
     let was = c.in-WantFile.ensures in
     record {
-      stands = c.supply_wanted.ensures.represents link (c.give_back.ensures.represents folder_move link was.represents);
+      stands = c.supply_wanted.ensures.represents link (c.spent_lease-spent.ensures.represents folder_move link was.represents);
       clocked =
           clocked_then c.args.conn.now c.files.conn c.advance-step.new.self c.supply_wanted.new.conn _ _ _ c.files.invariant.clocked was.clocked
-          (ap (λ (s : Standing). s.moments) c.supply_wanted.ensures.same ∙ ap (λ (s : Standing). s.moments) c.give_back.ensures.same);
+          (ap (λ (s : Standing). s.moments) c.supply_wanted.ensures.same ∙ ap (λ (s : Standing). s.moments) c.spent_lease-spent.ensures.same);
       goes =
           goes_supplied c.advance-step.new.self c.supply_wanted.new.conn c.files.conn _ _ _ _ _ _ _ c.files.invariant.goes was.counted.0 was.keeps.0
-          (ap (λ (s : Standing). s.over) c.supply_wanted.ensures.same ∙ ap (λ (s : Standing). s.over) c.give_back.ensures.same ∙ was.over.0)
+          (ap (λ (s : Standing). s.over) c.supply_wanted.ensures.same ∙ ap (λ (s : Standing). s.over) c.spent_lease-spent.ensures.same ∙ was.over.0)
           c.supply_wanted.ensures.looked.0
           c.supply_wanted.ensures.looked.1;
     }
@@ -28,12 +28,12 @@ returns-in_default g c =
     let serving = serving_over folder_move g.F.Files.folder in
     let was = c.advance-step.ensures in
     record {
-      prefix = c.sent_is_a_prefix.ensures folder_move g.F.Files.folder c.give_back.new.conn link (c.give_back.ensures.represents folder_move link was.represents);
-      implies = subst (λ (s : Standing). StepImpliesFor c.advance-step.result serving s link) (sym c.give_back.ensures.same) was.implies;
+      prefix = c.sent_is_a_prefix.ensures folder_move g.F.Files.folder c.spent_lease-spent.new.self link (c.spent_lease-spent.ensures.represents folder_move link was.represents);
+      implies = subst (λ (s : Standing). StepImpliesFor c.advance-step.result serving s link) (sym c.spent_lease-spent.ensures.same) was.implies;
       stops = c.in_default.not-WantFile;
       clocked =
-          clocked_then c.args.conn.now c.files.conn c.advance-step.new.self c.give_back.new.conn _ _ _ c.files.invariant.clocked was.clocked
-          (ap (λ (s : Standing). s.moments) c.give_back.ensures.same);
+          clocked_then c.args.conn.now c.files.conn c.advance-step.new.self c.spent_lease-spent.new.self _ _ _ c.files.invariant.clocked was.clocked
+          (ap (λ (s : Standing). s.moments) c.spent_lease-spent.ensures.same);
       brings =
           brings_at c.advance-step.result c.files.conn c.advance-step.new.self _ _ _ _ _ _ c.files.invariant.goes was.caused was.counted.0 was.keeps.0;
     }
