@@ -63,6 +63,7 @@ impl BodyReader {
 
     /// Uses the bytes at the front of the piece that belong to the body. After `Whole` or `Refuse` it uses
     /// nothing and answers the same again.
+    #[inline(always)]
     pub fn feed(&mut self, piece: &[u8]) -> Fed
         ensures within { result.used ≤ length piece.now }
         // The state is what the definition says of all bytes laid end to end, of those used before and the piece.

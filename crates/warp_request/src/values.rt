@@ -1,6 +1,5 @@
 // Values of fields: words without regard to case, lists cut at commas (RFC 9110, section 5.6).
-ghost use Rattle.std.specs.Prelude.{◌≡◌, ◌||◌, reverse};
-ghost use Rattle.std.specs.Char.{is_ascii_alphanumeric};
+ghost use Rattle.std.specs.Prelude.{◌≡◌, reverse};
 ghost use Rattle.std.specs.List.{list_all};
 ghost use Rattle.std.specs.Str.{str_eq_ignore_ascii_case};
 ghost use Rattle.httparse.specs.Grammar.{skip_ows, trim_ows};
@@ -52,40 +51,27 @@ pub(crate) fn has_word(value: &[u8], word: &[u8]) -> bool
         .any(|member| is_same_word(trim(member), word))
 }
 
-/// Whether a byte is one of the marks that a host and port may have beside letters and digits.
-#[tactic(auto, unfolding(crate::specs::Fields::is_host_byte))]
-fn is_host_mark(b: u8) -> bool
-    ensures { (is_ascii_alphanumeric b || result) ≡ is_byte_of_host b }
+// Each byte that may stand in a host and port stands at its own place, and a space at every other place.
+static HOST_MAP: [u8; 256] = *b"\
+    \x20                               \
+    \x20!  $%&'()*+,-. 0123456789:; =  \
+    \x20ABCDEFGHIJKLMNOPQRSTUVWXYZ[ ] _\
+    \x20abcdefghijklmnopqrstuvwxyz   ~ \
+    \x20                               \
+    \x20                               \
+    \x20                               \
+    \x20                               ";
+
+/// Whether a byte may stand in a host and port (RFC 3986, section 3.2.2).
+fn is_host_byte(b: u8) -> bool
+    ensures { result ≡ is_byte_of_host b }
 {
-    matches!(
-        b,
-        b'-' | b'.'
-            | b'_'
-            | b'~'
-            | b'!'
-            | b'$'
-            | b'&'
-            | b'\''
-            | b'('
-            | b')'
-            | b'*'
-            | b'+'
-            | b','
-            | b';'
-            | b'='
-            | b'%'
-            | b':'
-            | b'['
-            | b']'
-    )
+    HOST_MAP[b as usize] != b' '
 }
 
 /// Whether each byte may stand in a host and port (RFC 3986, section 3.2.2).
-#[tactic(auto, unfolding(crate::specs::Fields::is_host_byte))]
 pub(crate) fn is_host(value: &[u8]) -> bool
     ensures { result ≡ list_all is_byte_of_host value.now }
 {
-    value
-        .iter()
-        .all(|b| b.is_ascii_alphanumeric() || is_host_mark(*b))
+    value.iter().all(|b| is_host_byte(*b))
 }
