@@ -68,13 +68,11 @@ impl<F: Files> Conn<F> {
             target: head.target.of(bytes),
             minor: head.minor,
         };
-        match next_move(app, &request, seen, &mut self.path) {
-            Move::Look => {
-                self.phase = Phase::Wanting { head, behind, seen };
-                Move::Look
-            }
-            Move::Answer(response) => Move::Answer(response),
+        let next = next_move(app, &request, seen, &mut self.path);
+        if let Move::Look = next {
+            self.phase = Phase::Wanting { head, behind, seen };
         }
+        next
     }
 
     /// Makes the head of the answer to the request that is whole, at the moment that the clock gives. The content follows
