@@ -75,6 +75,55 @@ fn is_kept<R: Wait + Abort, F: Files>(
     }
 }
 
+/// A leased file isn't closed. One that came back is closed by the first reap before which nobody asked for it.
+fn closes_what_nobody_asked_for<R: Wait + Abort, K: Place>(
+    rt: &R,
+    alloc: Global,
+    cell: &TurnCell<Cache<MemFiles<K>>>,
+    pass: &mut CachePass<MemFiles<K>>,
+    files: &mut MemFiles<K>,
+) -> Result<(), AllocError>
+    requires { IsOf cell.now pass.old }
+    ensures { IsOf cell.now pass.new }
+{
+    let first = leased(rt, alloc, cell, pass, "a.txt", files);
+    assert_eq!(rt; (first.size, first.mtime), (5, 7));
+    assert_eq!(rt; reaped(rt, alloc, cell, pass)?, 0);
+    assert_eq!(rt; reaped(rt, alloc, cell, pass)?, 0);
+    assert_eq!(rt; release(rt, cell, pass, first), ReleaseOut::Released);
+    assert_eq!(rt; reaped(rt, alloc, cell, pass)?, 1);
+    let again = leased(rt, alloc, cell, pass, "a.txt", files);
+    assert!(rt; is_kept(rt, cell, pass, again));
+    assert_eq!(rt; reaped(rt, alloc, cell, pass)?, 0);
+    assert_eq!(rt; reaped(rt, alloc, cell, pass)?, 1);
+    assert_eq!(rt; files.finds(), 2);
+    Ok(())
+}
+
+/// Of a path two files are kept that came back, and one of these is lent before the files are asked.
+fn keeps_two_of_a_path<R: Wait + Abort, K: Place>(
+    rt: &R,
+    alloc: Global,
+    cell: &TurnCell<Cache<MemFiles<K>>>,
+    pass: &mut CachePass<MemFiles<K>>,
+    files: &mut MemFiles<K>,
+)
+    requires { IsOf cell.now pass.old }
+    ensures { IsOf cell.now pass.new }
+{
+    let one = leased(rt, alloc, cell, pass, "a.txt", files);
+    let two = leased(rt, alloc, cell, pass, "a.txt", files);
+    assert!(rt; is_kept(rt, cell, pass, one));
+    assert_eq!(rt; files.finds(), 4);
+    let hit = leased(rt, alloc, cell, pass, "a.txt", files);
+    assert_eq!(rt; files.finds(), 4);
+    let fresh = leased(rt, alloc, cell, pass, "a.txt", files);
+    assert_eq!(rt; files.finds(), 5);
+    assert!(rt; is_kept(rt, cell, pass, two));
+    assert!(rt; is_kept(rt, cell, pass, hit));
+    assert!(rt; !is_kept(rt, cell, pass, fresh));
+}
+
 /// A shared cache, of whose files' calls the seventh fails.
 fn shares_files<R: Wait + Abort, K: Place>(
     rt: &R,
@@ -86,45 +135,12 @@ fn shares_files<R: Wait + Abort, K: Place>(
     let failing = vec![in alloc; 7]?;
     let mut files = MemFiles::<K>::new(alloc, contents, true, failing);
     let (cell, mut pass) = TurnCell::new(alloc, Cache::new(alloc)?)?;
-
-    let first = leased(rt, alloc, &cell, &mut pass, "a.txt", &mut files);
-    assert_eq!(rt; first.size, 5);
-    assert_eq!(rt; first.mtime, 7);
-    assert_eq!(rt; reaped(rt, alloc, &cell, &mut pass)?, 0);
-    assert_eq!(rt; reaped(rt, alloc, &cell, &mut pass)?, 0);
-    assert_eq!(rt; release(rt, &cell, &mut pass, first), ReleaseOut::Released);
-    assert_eq!(rt; reaped(rt, alloc, &cell, &mut pass)?, 1);
-
-    let again = leased(rt, alloc, &cell, &mut pass, "a.txt", &mut files);
-    assert!(rt; is_kept(rt, &cell, &mut pass, again));
-    assert_eq!(rt; reaped(rt, alloc, &cell, &mut pass)?, 0);
-    assert_eq!(rt; reaped(rt, alloc, &cell, &mut pass)?, 1);
-    assert_eq!(rt; files.finds(), 2);
-
-    let one = leased(rt, alloc, &cell, &mut pass, "a.txt", &mut files);
-    let two = leased(rt, alloc, &cell, &mut pass, "a.txt", &mut files);
-    assert!(rt; is_kept(rt, &cell, &mut pass, one));
-    assert_eq!(rt; files.finds(), 4);
-    let hit = leased(rt, alloc, &cell, &mut pass, "a.txt", &mut files);
-    assert_eq!(rt; files.finds(), 4);
-    let fresh = leased(rt, alloc, &cell, &mut pass, "a.txt", &mut files);
-    assert_eq!(rt; files.finds(), 5);
-    assert!(rt; is_kept(rt, &cell, &mut pass, two));
-    assert!(rt; is_kept(rt, &cell, &mut pass, hit));
-    assert!(rt; !is_kept(rt, &cell, &mut pass, fresh));
-
-    assert!(rt;
-        matches!(
-            acquire(alloc, rt, &cell, &mut pass, "b.txt", &mut files),
-            Acquired::Absent
-        )
-    );
-    assert!(rt;
-        matches!(
-            acquire(alloc, rt, &cell, &mut pass, "b.txt", &mut files),
-            Acquired::Failed
-        )
-    );
+    closes_what_nobody_asked_for(rt, alloc, &cell, &mut pass, &mut files)?;
+    keeps_two_of_a_path(rt, alloc, &cell, &mut pass, &mut files);
+    let absent = acquire(alloc, rt, &cell, &mut pass, "b.txt", &mut files);
+    assert!(rt; matches!(absent, Acquired::Absent));
+    let failed = acquire(alloc, rt, &cell, &mut pass, "b.txt", &mut files);
+    assert!(rt; matches!(failed, Acquired::Failed));
     Ok(())
 }
 
