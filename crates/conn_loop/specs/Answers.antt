@@ -1,6 +1,5 @@
 -- To be believed: the answers to the bytes of a connection, as recursions over the whole list: request after request, at the moments of its clock.
 use Rattle.std.specs.Prelude.{◌≡◌, ℕ, zero, suc, ◌+◌, Bool, true, false, not, ◌||◌, List, [], ◌∷◌, ◌++◌, drop, if◌then◌else◌, ◌==◌}
-use Rattle.conn_loop.specs.declared.limits.TheConstants.{ANSWER_LIMIT}
 use Rattle.conn_loop.specs.Turns.{Turn, unfinished, refused, whole, turn_of, interim_of}
 use Rattle.warp_request.specs.Verdict.{Asked}
 use Rattle.warp_response.specs.declared.response.LastWord.{LastWord}
@@ -10,7 +9,7 @@ use Rattle.warp_response.specs.Text.{answer_text, refusal_text}
 
 -- how many final answers a connection gives
 abbrev pub limit : ℕ
-limit = ANSWER_LIMIT
+limit = 1000
 
 -- an answer closes the connection where the request doesn't keep it, or where no final answer may follow
 unfoldable pub closes : Asked → ℕ → Bool

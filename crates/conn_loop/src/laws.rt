@@ -2,13 +2,15 @@
 ghost use Rattle.std.specs.Prelude.{◌≡◌, ◌≤◌, ◌++◌, ℕ, List, [], Option, length};
 ghost use Rattle.outside.specs.Causes.{LinkTold};
 ghost use Rattle.outside.specs.Moments.{ClockTold};
-ghost use Rattle.conn_loop.specs.Answers.{BeginsWith, IsClosed, IsOpen, answers_of, finals_of};
+ghost use Rattle.conn_loop.specs.Answers.{BeginsWith, IsClosed, IsOpen, answers_of, finals_of, limit};
 ghost use Rattle.conn_loop.specs.Causes.{Clocked};
 ghost use Rattle.conn_loop.specs.Replying.{Replying};
 ghost use Rattle.outside.specs.Folder.{Folder};
 ghost use Rattle.app_trait.specs.Moves.{Moves};
 ghost use Rattle.conn_loop.specs.Replying.{serving_over};
 ghost use Rattle.conn_loop.specs.Standing.{Represents, SendsPrefixFor, Standing};
+
+use crate::limits::ANSWER_LIMIT;
 
 /// Where more bytes come, the answers go on: what was answered stays.
 pub fn answers_grow_with_bytes()
@@ -46,4 +48,9 @@ pub fn sent_is_a_prefix()
 /// The moments of a connection only grow: those that it had stay, in their order, and those that the clock gave come behind.
 pub fn moments_grow()
     ensures { (old new : Standing) (clock after : ClockTold) → Clocked old new clock after → BeginsWith new.moments old.moments }
+{}
+
+/// A connection gives as many final answers as the definition says.
+pub fn the_limit_is_defined()
+    ensures { ANSWER_LIMIT ≡ limit }
 {}

@@ -22,7 +22,7 @@ mod writing;
 pub use conn::Conn;
 pub use laws::{
     answers_grow_with_bytes, answers_grow_with_moments, answers_take_no_more_moments, closed_stays,
-    moments_grow, nothing_is_open, sent_is_a_prefix,
+    moments_grow, nothing_is_open, sent_is_a_prefix, the_limit_is_defined,
 };
 pub use limits::ANSWER_LIMIT;
 pub use scratch::Scratch;

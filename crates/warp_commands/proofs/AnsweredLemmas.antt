@@ -6,7 +6,9 @@ use Rattle.outside.specs.Moments.{ClockTold, Gains, Gives}
 use Rattle.conn_loop.specs.Answers.{answers_of, finals_of, IsOpen}
 use Rattle.conn_loop.specs.Replying.{Replying, Serving, folder_replies, replies, request_of, serving_over}
 use Rattle.app_trait.specs.FolderMoves.{folder_move}
-use Rattle.app_trait.proofs.FolderLemmas.{folder_move-comes}
+use Rattle.app_trait.specs.FolderReply.{folder_reply}
+use Rattle.app_trait.specs.Moves.{RequestText}
+use Rattle.app_trait.specs.ReplyTo.{reply_to}
 use mathlib.Core.Path.{fun_ext}
 use Rattle.outside.specs.Counts.{Counts}
 use Rattle.conn_loop.specs.Causes.{CountsWaits}
@@ -16,7 +18,6 @@ use Rattle.warp_response.specs.Reply.{sent_bytes}
 use Rattle.conn_loop.specs.declared.step.Step.{Step}
 use Rattle.conn_loop.specs.declared.step.Step.TheVariants.{WantRead, WantWrite, WantFile, Done}
 use Rattle.conn_loop.specs.declared.step.End.TheVariants as End
-use Rattle.conn_loop.proofs.AnswerLemmas.{open_nothing}
 use Rattle.warp_commands.specs.declared.status.Status.{Status}
 use Rattle.warp_commands.specs.declared.status.Status.TheVariants.{Clean, Cut, Usage, ReadFault, WriteFault, FileFault, NoMemory, NoSuchFolder, NotReady}
 use Rattle.warp_commands.specs.Served.{IsAnswered, IsAnsweredFor, HoldsAt, IsUnused}
@@ -111,38 +112,43 @@ unbegun_neither NoSuchFolder is = (λ e. cc, λ e. cc)
 unbegun_neither NotReady is = absurd is
 
 -- a link that was not used leaves nothing to answer
-untouched_told : (status : Status) (counts : Counts) (clock : ClockTold) (ended : Option Bool) (reply : Replying) (taken sent : List ℕ)
+untouched_told : IsOpen [] → (status : Status) (counts : Counts) (clock : ClockTold) (ended : Option Bool) (reply : Replying) (taken sent : List ℕ)
     → IsUnbegun status → is_some ended ≡ true → taken ≡ [] → sent ≡ [] → GoesOn ended
     → IsAnswered status counts counts clock clock ended reply taken sent
-untouched_told status counts clock ended reply taken sent is told none_taken none_sent goes =
+untouched_told opens status counts clock ended reply taken sent is told none_taken none_sent goes =
     let other = unbegun_neither status is in
     neither status counts counts clock clock ended reply taken sent [] (answers_of reply taken []) other.0 other.1 (gives_none clock) (omega arith)
     (ap (λ (v : List ℕ). v ++ answers_of reply taken []) (sym none_sent))
-    (not_clean reply [] taken sent ended told (subst IsOpen (sym none_taken) open_nothing) goes)
+    (not_clean reply [] taken sent ended told (subst IsOpen (sym none_taken) opens) goes)
     (not_cut reply [] taken sent ended told goes)
     (unbegun_holds status counts reply [] taken sent ended is (none_taken, none_sent))
 
-untouched_lists : (status : Status) (counts : Counts) (clock : ClockTold) (folder : Option Folder) (taken sent : Option (List ℕ)) (ended : Option Bool)
+untouched_lists : IsOpen [] → (status : Status) (counts : Counts) (clock : ClockTold) (folder : Option Folder) (taken sent : Option (List ℕ)) (ended : Option Bool)
     → IsUnbegun status → is_some ended ≡ is_some taken
     → IfSome taken (λ t. t ≡ []) → IfSome sent (λ s. s ≡ []) → GoesOn ended
     → IfSome folder (λ f. IfSome taken (λ t. IfSome sent (λ s. IsAnswered status counts counts clock clock ended (folder_replies f) t s)))
-untouched_lists status counts clock None taken sent ended is told no_bytes none goes = tt
-untouched_lists status counts clock (Some r) None sent ended is told no_bytes none goes = tt
-untouched_lists status counts clock (Some r) (Some t) None ended is told no_bytes none goes = tt
-untouched_lists status counts clock (Some r) (Some t) (Some s) None is told no_bytes none goes = cc
-untouched_lists status counts clock (Some r) (Some t) (Some s) (Some e) is told no_bytes none goes =
-    untouched_told status counts clock (Some e) (folder_replies r) t s is refl no_bytes none goes
+untouched_lists opens status counts clock None taken sent ended is told no_bytes none goes = tt
+untouched_lists opens status counts clock (Some r) None sent ended is told no_bytes none goes = tt
+untouched_lists opens status counts clock (Some r) (Some t) None ended is told no_bytes none goes = tt
+untouched_lists opens status counts clock (Some r) (Some t) (Some s) None is told no_bytes none goes = cc
+untouched_lists opens status counts clock (Some r) (Some t) (Some s) (Some e) is told no_bytes none goes =
+    untouched_told opens status counts clock (Some e) (folder_replies r) t s is refl no_bytes none goes
 
-pub untouched : (status : Status) (clock : ClockTold) (folder : Option Folder) (link : LinkTold)
+-- where no bytes close anything
+pub untouched : IsOpen [] → (status : Status) (clock : ClockTold) (folder : Option Folder) (link : LinkTold)
     → IsUnbegun status → is_some link.ended ≡ is_some link.taken → IsFresh link
     → IsAnsweredFor status folder link link clock clock
-untouched status clock folder link is told fresh =
-    untouched_lists status link.waits clock folder link.taken link.sent link.ended is told fresh.nothing_taken fresh.nothing_sent fresh.not_ended
+untouched opens status clock folder link is told fresh =
+    untouched_lists opens status link.waits clock folder link.taken link.sent link.ended is told fresh.nothing_taken fresh.nothing_sent fresh.not_ended
 
--- the replies of the application's moves are those of the folder's table
-replies_folder : (f : Folder) → replies (record { moves = folder_move; folder = f }) ≡ folder_replies f
+-- look by look the application comes to the reply of the folder's table
+abbrev ComesToTable : Type 0
+ComesToTable = (folder : Folder) (request : RequestText) → reply_to (λ r seen. folder_move r seen) folder request ≡ folder_reply folder request
+
+-- the replies of its moves are those of the table
+replies_folder : ComesToTable → (f : Folder) → replies (record { moves = folder_move; folder = f }) ≡ folder_replies f
 unfolding replies folder_replies
-replies_folder f = fun_ext (λ a. folder_move-comes f (request_of a))
+replies_folder table f = fun_ext (λ a. table f (request_of a))
 
 -- what a step says of the bytes is what a command says of them
 module _ (link later : LinkTold) (clock after : ClockTold) (ended : Option Bool) (reply : Replying) (moments taken sent : List ℕ) (told : is_some ended ≡ true)
@@ -200,22 +206,22 @@ module _ (link later : LinkTold) (clock after : ClockTold) (ended : Option Bool)
       other_end (Done End.NoMemory) (λ e. cc) (λ e. cc)
       (λ y. not_fewer reply moments taken sent ended told says.0.fewer y.whole) (not_cut reply moments taken sent ended told says.1) (inl says)
 
-answered_lists : (step : Step) (link later : LinkTold) (clock after : ClockTold) (folder : Option Folder) (moments : List ℕ) (taken sent : Option (List ℕ)) (ended : Option Bool)
+answered_lists : ComesToTable → (step : Step) (link later : LinkTold) (clock after : ClockTold) (folder : Option Folder) (moments : List ℕ) (taken sent : Option (List ℕ)) (ended : Option Bool)
     → step ≢ WantFile → is_some ended ≡ is_some taken → Gives moments clock after → CountsWaits step link later
     → IfSome (serving_over folder_move folder) (λ v. IfSome taken (λ t. IfSome sent (λ s. SendsPrefix (replies v) moments t s)))
     → IfSome (serving_over folder_move folder) (λ v. IfSome taken (λ t. IfSome sent (λ s. StepImplies step (replies v) moments t s ended)))
     → IfSome folder (λ f. IfSome taken (λ t. IfSome sent (λ s. IsAnswered (status_after step) link.waits later.waits clock after ended (folder_replies f) t s)))
-answered_lists step link later clock after None moments taken sent ended stops told gave waits x says = tt
-answered_lists step link later clock after (Some f) moments None sent ended stops told gave waits x says = tt
-answered_lists step link later clock after (Some f) moments (Some t) None ended stops told gave waits x says = tt
-answered_lists step link later clock after (Some f) moments (Some t) (Some s) None stops told gave waits x says = cc
-answered_lists step link later clock after (Some f) moments (Some t) (Some s) (Some e) stops told gave waits x says =
-    subst (λ (r : Replying). IsAnswered (status_after step) link.waits later.waits clock after (Some e) r t s) (replies_folder f)
+answered_lists table step link later clock after None moments taken sent ended stops told gave waits x says = tt
+answered_lists table step link later clock after (Some f) moments None sent ended stops told gave waits x says = tt
+answered_lists table step link later clock after (Some f) moments (Some t) None ended stops told gave waits x says = tt
+answered_lists table step link later clock after (Some f) moments (Some t) (Some s) None stops told gave waits x says = cc
+answered_lists table step link later clock after (Some f) moments (Some t) (Some s) (Some e) stops told gave waits x says =
+    subst (λ (r : Replying). IsAnswered (status_after step) link.waits later.waits clock after (Some e) r t s) (replies_folder table f)
     (answered_after link later clock after (Some e) (replies (record { moves = folder_move; folder = f })) moments t s refl gave x step stops waits says)
 
-pub answered : (step : Step) (link later : LinkTold) (clock after : ClockTold) (folder : Option Folder) (conn : Standing)
+pub answered : ComesToTable → (step : Step) (link later : LinkTold) (clock after : ClockTold) (folder : Option Folder) (conn : Standing)
     → step ≢ WantFile → is_some later.ended ≡ is_some later.taken → Gives conn.moments clock after → CountsWaits step link later
     → SendsPrefixFor (serving_over folder_move folder) conn later → StepImpliesFor step (serving_over folder_move folder) conn later
     → IsAnsweredFor (status_after step) folder link later clock after
-answered step link later clock after folder conn stops told gave waits x says =
-    answered_lists step link later clock after folder conn.moments later.taken later.sent later.ended stops told gave waits x says
+answered table step link later clock after folder conn stops told gave waits x says =
+    answered_lists table step link later clock after folder conn.moments later.taken later.sent later.ended stops told gave waits x says

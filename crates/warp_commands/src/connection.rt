@@ -18,7 +18,7 @@ ghost use Rattle.warp_commands.specs.Served.{IsAnsweredFor};
 use crate::command::{Command, command_of};
 use crate::status::{Status, tell};
 use app_trait::FolderApp;
-use conn_loop::{Closing, Conn, End, Scratch, Step, Supply, sent_is_a_prefix};
+use conn_loop::{Closing, Conn, End, Scratch, Step, Supply, nothing_is_open, sent_is_a_prefix};
 use fd_cache::{Acquired, Cache, Lease, acquire_own, release_own};
 use outside::{Clock, Files, Link, RootOut, Sink};
 use std::alloc::Global;
@@ -70,6 +70,8 @@ fn carried_out<L: Link, F: Files, C: Clock>(
         (L.told link.old) (L.told link.new) (F.told files.old) (F.told files.new) }
     ensures leaves { Leaves result (L.told link.old) (L.told link.new) (F.told files.old) (F.told files.new) (C.told clock.old) (C.told clock.new) }
 {
+    // The law that no bytes close nothing.
+    nothing_is_open();
     let Ok(Command::Connection { root }) = command_of(words) else {
         return Status::Usage;
     };
@@ -94,6 +96,9 @@ fn served<L: Link, F: Files, C: Clock>(
     ensures rooted { (F.told files.new).rooted ≡ (F.told files.old).rooted }
     ensures stays { Stays (L.told link.old) (L.told link.new) (F.told files.old) (F.told files.new) (C.told clock.old) (C.told clock.new) }
 {
+    // The laws that no bytes close nothing, and that look by look the application comes to the reply of the folder's table.
+    nothing_is_open();
+    FolderApp.serves();
     let Ok(mut conn) = Conn::<F>::new(alloc) else {
         return Status::NoMemory;
     };

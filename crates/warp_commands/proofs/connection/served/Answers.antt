@@ -8,15 +8,15 @@ use Rattle.warp_commands.proofs.connection.served.Goals as goal
 
 pub returns-in_default-clause-answered : goal.returns-in_default-clause-answered
 returns-in_default-clause-answered g c =
-    untouched _ (g.C.Clock.told c.args.clock.now) g.F.Files.folder (g.L.Link.told c.args.link.now) tt (g.met.L.Link.ended_told c.args.link.now) c.requires
+    untouched c.nothing_is_open.ensures _ (g.C.Clock.told c.args.clock.now) g.F.Files.folder (g.L.Link.told c.args.link.now) tt (g.met.L.Link.ended_told c.args.link.now) c.requires
 
 pub returns-in_default-new-clause-answered : goal.returns-in_default-new-clause-answered
 returns-in_default-new-clause-answered g c =
-    untouched _ (g.C.Clock.told c.args.clock.now) g.F.Files.folder (g.L.Link.told c.args.link.now) tt (g.met.L.Link.ended_told c.args.link.now) c.requires
+    untouched c.nothing_is_open.ensures _ (g.C.Clock.told c.args.clock.now) g.F.Files.folder (g.L.Link.told c.args.link.now) tt (g.met.L.Link.ended_told c.args.link.now) c.requires
 
 pub returns-in_default-new-2-clause-answered : goal.returns-in_default-new-2-clause-answered
 returns-in_default-new-2-clause-answered g c =
-    untouched _ (g.C.Clock.told c.args.clock.now) g.F.Files.folder (g.L.Link.told c.args.link.now) tt (g.met.L.Link.ended_told c.args.link.now) c.requires
+    untouched c.nothing_is_open.ensures _ (g.C.Clock.told c.args.clock.now) g.F.Files.folder (g.L.Link.told c.args.link.now) tt (g.met.L.Link.ended_told c.args.link.now) c.requires
 
 pub returns-clause-answered : goal.returns-clause-answered
 returns-clause-answered g c =
@@ -26,7 +26,7 @@ returns-clause-answered g c =
     let after = g.C.Clock.told c.brought_on-step.new.clock in
     let brought = c.brought_on-step.ensures in
     subst (λ (s : Status). IsAnsweredFor s g.F.Files.folder link later clock after) (sym c.status_of.ensures)
-    (answered c.brought_on-step.result link later clock after g.F.Files.folder c.brought_on-step.new.conn brought.stops (g.met.L.Link.ended_told c.brought_on-step.new.link)
+    (answered c.serves.ensures.table c.brought_on-step.result link later clock after g.F.Files.folder c.brought_on-step.new.conn brought.stops (g.met.L.Link.ended_told c.brought_on-step.new.link)
     (gives_first c.in-Ok.conn c.brought_on-step.new.conn clock after c.in-Ok.ensures.is brought.clocked)
     brought.brings.waits brought.prefix brought.implies)
 
