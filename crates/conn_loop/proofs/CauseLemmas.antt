@@ -1,6 +1,6 @@
 -- Why a step comes, over one part of a call after the other.
-use Rattle.std.proofs.Common.{◌≡◌, ◌≢◌, ℕ, ◌+◌, ◌≤◌, List, [], ◌∷◌, ◌++◌, length, Option, Some, None, IfSome, refl, sym, ap, ◌∙◌, subst, arith, inl, inr, append_assoc, append-nil}
-use Rattle.std.specs.Prelude.{◌⊎◌, ◌↔◌, min, nat_lt, Bool, true, false, if◌then◌else◌}
+use Rattle.std.proofs.Common.{◌≡◌, ℕ, ◌+◌, ◌≤◌, List, [], ◌∷◌, ◌++◌, length, Option, Some, None, IfSome, refl, sym, ap, ◌∙◌, subst, arith, inl, inr, append_assoc, append-nil}
+use Rattle.std.specs.Prelude.{◌⊎◌, min, nat_lt, Bool, true, false, if◌then◌else◌}
 use Rattle.outside.specs.Causes.{LinkTold, KeepsLink}
 use Rattle.outside.specs.Counts.{Counts, Rises, full}
 use Rattle.outside.specs.FileCauses.{FilesTold}
@@ -9,9 +9,9 @@ use Rattle.conn_loop.specs.declared.step.Step.{Step}
 use Rattle.conn_loop.specs.declared.step.Step.TheVariants.{WantRead, WantWrite, WantFile, Done}
 use Rattle.conn_loop.specs.declared.step.End.{End}
 use Rattle.conn_loop.specs.declared.step.End.TheVariants.{Clean, Cut, ReadFault, WriteFault, FileFault, NoMemory}
-use Rattle.conn_loop.specs.Causes.{Clocked, CountsWaits, HasFault, Keeps, ReadsOnly}
+use Rattle.conn_loop.specs.Causes.{Clocked, CountsWaits, HasFault, ReadsOnly}
 use Rattle.conn_loop.specs.Stages.{Stage, unread, sending, failing, FailsBy}
-use Rattle.conn_loop.specs.Standing.{Standing, Counted, IsAsking}
+use Rattle.conn_loop.specs.Standing.{Standing, IsAsking}
 use Rattle.conn_loop.specs.declared.writing.WriteEnd.{WriteEnd}
 use Rattle.conn_loop.specs.declared.writing.WriteEnd.TheVariants.{All, Waits, Fails}
 use Rattle.app_trait.specs.Moves.{Moves}

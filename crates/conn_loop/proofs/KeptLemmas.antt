@@ -1,6 +1,6 @@
 -- What is kept of a call's step.
-use Rattle.std.proofs.Common.{◌≡◌, ◌≢◌, ℕ, ◌+◌, ◌*◌, ◌<◌, ◌≤◌, List, length, Option, Some, None, IfSome, refl, sym, ap, ◌∙◌, subst, arith, inl, inr}
-use Rattle.std.specs.Prelude.{◌↔◌, IfNone, min}
+use Rattle.std.proofs.Common.{◌≡◌, ℕ, ◌+◌, ◌*◌, ◌≤◌, List, Option, Some, None, IfSome, refl, sym, ap, subst, arith}
+use Rattle.std.specs.Prelude.{◌↔◌, IfNone}
 use Rattle.app_trait.specs.Moves.{Moves}
 use Rattle.outside.specs.Causes.{LinkTold}
 use Rattle.outside.specs.FileCauses.{FilesTold}
@@ -8,7 +8,7 @@ use Rattle.conn_loop.specs.declared.step.Step.{Step}
 use Rattle.conn_loop.specs.declared.step.Step.TheVariants.{WantRead, WantWrite, WantFile, Done}
 use Rattle.conn_loop.specs.declared.step.End.{End}
 use Rattle.conn_loop.specs.Causes.{IsCaused, end_of}
-use Rattle.conn_loop.specs.Stages.{Stage, body_steps, failing, finished, steps_left, FailsBy}
+use Rattle.conn_loop.specs.Stages.{Stage, body_steps, failing, steps_left, FailsBy}
 use Rattle.conn_loop.specs.Standing.{AsksFor, Counted, IsAsking, IsAskingStage, Standing}
 use Rattle.conn_loop.specs.Steps.{GoesOver, stage_kept, to_go}
 

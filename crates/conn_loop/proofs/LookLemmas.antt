@@ -1,12 +1,12 @@
 -- The looks for the file of a reply, one after the other.
-use Rattle.std.proofs.Common.{◌≡◌, ℕ, ◌+◌, ◌*◌, ◌<◌, ◌≤◌, Bool, true, false, List, [], ◌++◌, length, drop, Option, Some, None, IfSome, refl, sym, ap, ◌∙◌, subst, arith}
+use Rattle.std.proofs.Common.{◌≡◌, ℕ, ◌+◌, ◌*◌, ◌<◌, List, length, Option, Some, None, refl, sym, ◌∙◌, subst, arith}
 use Rattle.std.specs.Prelude.{IsSomeAnd}
-use Rattle.outside.specs.Folder.{Folder, Content, HasFile, file_at}
+use Rattle.outside.specs.Folder.{Folder, Content, file_at}
 use Rattle.app_trait.specs.declared.request.Seen.{Seen}
 use Rattle.app_trait.specs.declared.request.Seen.TheVariants.{Nothing, FirstFound, FirstAbsent, SecondFound, SecondAbsent}
 use Rattle.app_trait.specs.Seen.{next_seen}
 use Rattle.app_trait.specs.Moves.{RequestText, AppMove, look_at, Moves, EndsWithTwo, PathKept}
-use Rattle.app_trait.specs.ReplyTo.{reply_to, reply_after, SawFound, facts_of}
+use Rattle.app_trait.specs.ReplyTo.{facts_of}
 use Rattle.app_trait.proofs.ReplyLemmas.{reply_to-is, reply_after-look, SawFound-next}
 use Rattle.conn_loop.specs.Stages.{looks_left}
 use Rattle.conn_loop.specs.Standing.{HasAsked, HasLooked, IsAt}

@@ -1,6 +1,6 @@
 -- The steps that are left, at most.
-use Rattle.std.proofs.Common.{◌≡◌, ℕ, ◌+◌, ◌-◌, ◌*◌, ◌<◌, ◌≤◌, Bool, true, false, List, ◌++◌, length, drop, Option, Some, None, refl, sym, ap, ◌∙◌, subst, arith, length-append, length-drop}
-use Rattle.std.specs.Prelude.{if◌then◌else◌, IfNone}
+use Rattle.std.proofs.Common.{◌≡◌, ℕ, ◌+◌, ◌*◌, ◌<◌, ◌≤◌, List, length, Option, Some, None, sym, ap, subst, arith, length-append, length-drop}
+use Rattle.std.specs.Prelude.{IfNone}
 use Rattle.outside.specs.Causes.{LinkTold}
 use Rattle.outside.specs.declared.link.ReadOut.TheVariants as Reads
 use Rattle.conn_loop.specs.declared.step.Step.{Step}

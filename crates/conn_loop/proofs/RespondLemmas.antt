@@ -1,9 +1,9 @@
 -- What an answer makes of what a connection stands for: its head is made, and its content is to be sent.
-use Rattle.std.proofs.Common.{◌≡◌, ℕ, zero, suc, ◌+◌, ◌-◌, ◌*◌, ◌^◌, ◌<◌, ◌≤◌, Bool, true, false, List, [], ◌∷◌, ◌++◌, length, take, drop, Option, Some, None, IfSome, refl, sym, ap, ◌∙◌, subst, arith, append-nil, append_assoc}
-use Rattle.std.specs.Prelude.{if◌then◌else◌, IsSomeAnd, nat_lt}
+use Rattle.std.proofs.Common.{◌≡◌, ℕ, ◌+◌, ◌*◌, ◌^◌, ◌<◌, ◌≤◌, Bool, true, false, List, [], ◌∷◌, ◌++◌, length, drop, Option, Some, None, refl, sym, ap, ◌∙◌, subst, arith, append-nil, append_assoc}
+use Rattle.std.specs.Prelude.{if◌then◌else◌, nat_lt}
 use Rattle.std.proofs.lemmas.Bool.Decides.{nat_tests}
 use Rattle.outside.specs.Causes.{LinkTold}
-use Rattle.outside.specs.Folder.{Folder, Content, file_at}
+use Rattle.outside.specs.Folder.{Folder, Content}
 use Rattle.httparse.specs.Spans.{span_bytes}
 use Rattle.warp_request.specs.Verdict.{Asked}
 use Rattle.warp_request.specs.declared.verdict.HeadInfo.{HeadInfo}
@@ -12,7 +12,7 @@ use Rattle.warp_response.specs.declared.response.Content as held
 use Rattle.warp_response.specs.declared.response.Content.TheVariants as kept
 use Rattle.warp_response.specs.declared.response.Response.{Response}
 use Rattle.warp_response.specs.Head.{head_text}
-use Rattle.warp_response.specs.Reply.{Reply, IsResponseFor, IsSendable, file, head_of, sent_bytes}
+use Rattle.warp_response.specs.Reply.{Reply, IsResponseFor, IsSendable, head_of, sent_bytes}
 use Rattle.warp_response.specs.Text.{answer_text}
 use Rattle.app_trait.specs.declared.app.Move.{Move}
 use Rattle.app_trait.specs.declared.app.Move.TheVariants.{Look, Answer}
@@ -21,7 +21,7 @@ use Rattle.app_trait.specs.declared.request.Seen.TheVariants.{Nothing, FirstFoun
 use Rattle.app_trait.specs.Moves.{RequestText, AppMove, Moves, IsProperMove, answer}
 use Rattle.app_trait.specs.Moves as app
 use Rattle.app_trait.specs.Shown.{file_shown, move_shown, outline_of, FitsFound, Fits, FitsMove}
-use Rattle.app_trait.specs.ReplyTo.{reply_to, reply_after, SawFound, content_filled}
+use Rattle.app_trait.specs.ReplyTo.{reply_after, SawFound, content_filled}
 use Rattle.app_trait.proofs.ReplyLemmas.{reply_after-answer, IsResponseFor-reply_after, IsSendable-proper}
 use Rattle.conn_loop.specs.declared.step.Step.TheVariants.{WantFile}
 use Rattle.conn_loop.specs.Answers.{closes, last_word}

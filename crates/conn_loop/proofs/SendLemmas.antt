@@ -1,18 +1,18 @@
 -- What a part of a content makes of what a connection stands for.
-use Rattle.std.proofs.Common.{◌≡◌, ℕ, ◌+◌, ◌-◌, ◌*◌, ◌<◌, ◌≤◌, Bool, true, false, List, [], ◌∷◌, ◌++◌, length, take, drop, Option, Some, None, IfSome, refl, sym, ap, ◌∙◌, subst, arith, append-nil, append_assoc, length-take, length-drop, take-append-drop}
+use Rattle.std.proofs.Common.{◌≡◌, ℕ, ◌+◌, ◌*◌, ◌<◌, ◌≤◌, Bool, true, false, List, [], ◌∷◌, ◌++◌, length, take, drop, Option, Some, None, refl, sym, ap, ◌∙◌, subst, arith, append-nil, append_assoc, take-append-drop}
 use Rattle.std.specs.Prelude.{if◌then◌else◌, IsSomeAnd, nat_lt}
 use Rattle.std.proofs.lemmas.Bool.Decides.{nat_tests}
 use Rattle.std.proofs.lemmas.List.{drop_all, drop-drop}
 use Rattle.outside.specs.Causes.{LinkTold}
-use Rattle.outside.specs.FileCauses.{FilesTold, ReadPart}
+use Rattle.outside.specs.FileCauses.{FilesTold}
 use Rattle.outside.specs.Folder.{Folder, Content, file_at}
 use Rattle.outside.specs.declared.files.PartOut.{PartOut}
 use Rattle.outside.specs.declared.files.PartOut.TheVariants as Parts
 use Rattle.app_trait.specs.Moves.{Moves}
-use Rattle.conn_loop.specs.Moves.{ReadsPart, TakesPart, HasPart, IsPartOf, part_len, stage_read}
+use Rattle.conn_loop.specs.Moves.{ReadsPart, HasPart, IsPartOf, part_len, stage_read}
 use Rattle.conn_loop.specs.Replying.{Serving, serving_over}
-use Rattle.conn_loop.specs.Stages.{Stage, unread, sending, broken, bytes_of, failing, leased_bytes, steps_left, body_steps, unread_at, LiesAhead}
-use Rattle.conn_loop.specs.Standing.{Standing, Accounts, IsSending, Looks, due_of}
+use Rattle.conn_loop.specs.Stages.{Stage, unread, sending, bytes_of, leased_bytes, steps_left, body_steps, unread_at, LiesAhead}
+use Rattle.conn_loop.specs.Standing.{Standing, Looks, due_of}
 use Rattle.conn_loop.specs.Steps.{Comes, ComesFor, IsSendingOut, IsSendingStage, to_go}
 use Rattle.conn_loop.proofs.StandingLemmas.{accounts_lies}
 use Rattle.conn_loop.proofs.ToldLemmas.{told_kept}

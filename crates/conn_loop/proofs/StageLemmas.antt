@@ -1,6 +1,6 @@
 -- What holds of stages, one by one.
 use Rattle.std.specs.Prelude.{if◌then◌else◌, nat_lt}
-use Rattle.std.proofs.Common.{◌≡◌, ℕ, zero, suc, Bool, true, false, List, Option, Some, None, refl, sym, ap, ◌∙◌, subst}
+use Rattle.std.proofs.Common.{◌≡◌, ℕ, Bool, true, false, List, Option, None, refl, sym, subst}
 use Rattle.app_trait.specs.declared.request.Seen.{Seen}
 use Rattle.app_trait.specs.Moves.{Moves, PathKept}
 use Rattle.warp_response.specs.declared.response.Content.{Content}
@@ -10,7 +10,6 @@ use Rattle.conn_loop.specs.Replying.{Serving, request_of}
 use Rattle.conn_loop.proofs.LookLemmas.{looked_first}
 use Rattle.outside.specs.declared.link.ReadOut.{ReadOut}
 use Rattle.outside.specs.declared.link.ReadOut.TheVariants as Reads
-use Rattle.conn_loop.specs.declared.step.End.{End}
 use Rattle.conn_loop.specs.Stages.{Stage, unread, short, reading, refusing, ready, wanting, sending, unmade, broken, finished, failing, grown, HasNoContent, IsWanting, IsReadyStage}
 use Rattle.conn_loop.specs.Standing.{AsksFor, HasLooked, IsAskingStage, Looks}
 use Rattle.conn_loop.specs.Steps.{IsBegun, IsPlain, IsSendingOut, stage_after}

@@ -1,5 +1,5 @@
 -- What was taken stays accounted for through the steps of a connection.
-use Rattle.std.proofs.Common.{◌≡◌, ℕ, suc, ◌+◌, ◌<◌, ◌≤◌, Bool, true, false, List, [], ◌∷◌, ◌++◌, length, take, drop, Option, Some, None, refl, sym, ap, ◌∙◌, subst, arith, inl, inr, append_assoc, append-nil, length-append, length-take, length-drop}
+use Rattle.std.proofs.Common.{◌≡◌, ℕ, suc, ◌+◌, ◌<◌, Bool, true, false, List, [], ◌∷◌, ◌++◌, length, take, drop, Option, refl, sym, ap, ◌∙◌, subst, arith, append_assoc, append-nil, length-append, length-take, length-drop}
 use Rattle.std.specs.Prelude.{if◌then◌else◌, ◌⊎◌}
 use Rattle.std.proofs.Math.Seq.{drop-append_seam}
 use Rattle.std.proofs.lemmas.List.{drop_all, drop-append-le, take-append-le}
@@ -14,8 +14,8 @@ use Rattle.warp_response.specs.Text.{answer_text, interim_text, refusal_text}
 use Rattle.conn_loop.specs.Answers.{limit, closes, last_word, answers_of, answers_within, answers_behind, finals_of, finals_within, closed_within, rest_of, rest_within, IsClosed, IsOpen}
 use Rattle.conn_loop.specs.Ends.{IsWhole, IsPart, SendsPrefix, IsShort, IsBroken}
 use Rattle.conn_loop.specs.Replying.{Serving, replies}
-use Rattle.conn_loop.specs.Stages.{Stage, unread, short, reading, refusing, ready, wanting, sending, unmade, broken, finished, answers_left, grown, leased_bytes, unread_at, HasNoContent, HasWhole, LiesAhead, IsReading, IsReady, IsWanting, IsReadyStage}
-use Rattle.conn_loop.specs.Standing.{Standing, at_first, due_of, Accounts, IsSending, Looks}
+use Rattle.conn_loop.specs.Stages.{Stage, unread, short, reading, refusing, ready, wanting, sending, unmade, broken, finished, answers_left, grown, leased_bytes, unread_at, HasNoContent, HasWhole, LiesAhead, IsReading, IsReady, IsWanting}
+use Rattle.conn_loop.specs.Standing.{Standing, at_first, due_of, Accounts, Looks}
 use Rattle.conn_loop.specs.Turns.{turn_of, unfinished, refused, whole, interim_of}
 use Rattle.conn_loop.proofs.AnswerLemmas.{within_done, behind_done, within_is, within_behind, within_nothing, behind_unfinished, behind_whole, answers_refused, answers_whole, finals_done, finals_unfinished, finals_refused, finals_whole, finals_some, closed_unfinished, closed_refused, closed_whole, closed_done, rest_unfinished, rest_refused, rest_whole, turn_asked, turn_more, interim_is}
 

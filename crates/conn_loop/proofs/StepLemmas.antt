@@ -1,9 +1,7 @@
 -- What each step of a connection makes of what it stands for.
-use Rattle.std.proofs.Common.{◌≡◌, ◌≢◌, ℕ, zero, suc, ◌+◌, ◌-◌, ◌*◌, ◌<◌, ◌≤◌, Bool, true, false, ◌||◌, List, [], ◌∷◌, ◌++◌, length, take, drop, Option, Some, None, IfSome, option_map, inl, inr, refl, sym, ap, ◌∙◌, subst, arith, append-nil, append_assoc, length-append, length-drop}
-use Rattle.std.specs.Prelude.{if◌then◌else◌, IfNone, IsTrue, ◌↔◌, ◌⊎◌, min}
-use Rattle.std.proofs.lemmas.Bool.{both_ways}
-use Rattle.outside.specs.Causes.{LinkTold, KeepsLink, ReadWaits, is_end}
-use Rattle.outside.specs.PieceLink.{fresh_told}
+use Rattle.std.proofs.Common.{◌≡◌, ◌≢◌, ℕ, suc, ◌+◌, ◌-◌, ◌<◌, Bool, true, false, ◌||◌, List, [], ◌∷◌, ◌++◌, length, take, drop, Option, Some, None, IfSome, option_map, inl, inr, refl, sym, ap, ◌∙◌, subst, arith, append-nil}
+use Rattle.std.specs.Prelude.{◌⊎◌, min}
+use Rattle.outside.specs.Causes.{LinkTold, ReadWaits, is_end}
 use Rattle.outside.specs.declared.link.ReadOut.{ReadOut}
 use Rattle.outside.specs.declared.link.ReadOut.TheVariants as Reads
 use Rattle.outside.specs.Counts.{Counts, full}
@@ -31,7 +29,7 @@ use Rattle.app_trait.specs.Moves.{Moves}
 use Rattle.conn_loop.specs.Replying.{Serving, replies, serving_over}
 use Rattle.conn_loop.specs.Standing.{Standing, Accounts, AsksFor, Counted, IsAskingStage, AccountsUnless, HoldsAt, Looks, SendsPrefixFor, Stands, StepImpliesFor, due_of, held_lease}
 use Rattle.conn_loop.specs.Steps.{Comes, ComesFor, Goes, IsBegun, IsFailing, MayEnd, Proceeds, stage_after, stage_kept}
-use Rattle.conn_loop.specs.Writing.{Writes, Leaves}
+use Rattle.conn_loop.specs.Writing.{Leaves}
 use Rattle.conn_loop.proofs.StandingLemmas.{IsUnanswered, prefix_of, fewer_of, accounts_take, accounts_send, accounts_lies, accounts_given, accounts_refuse, part_of, whole_closed, whole_wanting, short_of, broken_of, closed_of, open_of, rest_is, unread_none}
 use Rattle.conn_loop.proofs.StageLemmas.{begun_content, begun_looks}
 use Rattle.conn_loop.proofs.VerdictLemmas.{asked_some}

@@ -1,5 +1,5 @@
 -- What is supplied to a connection, and what it gives back.
-use Rattle.std.proofs.Common.{◌≡◌, ◌≢◌, ℕ, ◌+◌, ◌*◌, ◌<◌, ◌≤◌, Bool, true, false, List, [], ◌++◌, length, drop, Option, Some, None, IfSome, option_map, refl, sym, ap, ◌∙◌, subst, arith, inl, inr}
+use Rattle.std.proofs.Common.{◌≡◌, ℕ, ◌+◌, ◌*◌, ◌<◌, Bool, false, List, [], ◌++◌, length, Option, Some, None, IfSome, refl, sym, ap, ◌∙◌, subst, arith}
 use Rattle.std.specs.Prelude.{IsSomeAnd}
 use Rattle.outside.specs.Causes.{IsFresh, LinkTold}
 use Rattle.outside.specs.Folder.{Content, Folder, HasFile, file_at}
@@ -7,18 +7,16 @@ use Rattle.app_trait.specs.declared.request.Seen.{Seen}
 use Rattle.app_trait.specs.declared.request.Seen.TheVariants.{Nothing, FirstFound, FirstAbsent, SecondFound, SecondAbsent}
 use Rattle.app_trait.specs.Seen.{next_seen}
 use Rattle.app_trait.specs.Moves.{EndsWithTwo, Moves, RequestText}
-use Rattle.app_trait.specs.ReplyTo.{SawFound}
-use Rattle.conn_loop.specs.declared.step.Step.TheVariants.{Done}
 use Rattle.conn_loop.specs.declared.step.End.{End}
 use Rattle.conn_loop.specs.declared.phase.Phase.{Phase}
 use Rattle.conn_loop.specs.declared.phase.Phase.TheVariants.{Fresh, Waits, Reading, Refused, Ready, Wanting, Sending, Unmade, Broken, Over}
-use Rattle.conn_loop.specs.Ends.{SendsPrefix, GoesOn, WhereTold}
+use Rattle.conn_loop.specs.Ends.{GoesOn}
 use Rattle.conn_loop.specs.Moves.{FailsTo, SeesNext}
 use Rattle.conn_loop.specs.Phases.{HasFound, HasLease, stage_in}
-use Rattle.conn_loop.specs.Replying.{Serving, replies, request_of, serving_over}
-use Rattle.conn_loop.specs.Stages.{Stage, unread, short, reading, refusing, ready, wanting, sending, unmade, broken, finished, body_steps, is_found, looks_left, needs_file, steps_left, unread_at, HasWhole, LiesAhead}
-use Rattle.conn_loop.specs.Standing.{path_asked, path_asked_at, Standing, at_first, Accounts, AccountsUnless, AsksFor, HasAsked, HasLooked, HoldsAt, IsAt, Looks, Represents, Stands, due_of}
-use Rattle.conn_loop.specs.Steps.{Comes, to_go}
+use Rattle.conn_loop.specs.Replying.{Serving, request_of, serving_over}
+use Rattle.conn_loop.specs.Stages.{Stage, unread, short, reading, refusing, ready, wanting, sending, unmade, broken, finished, body_steps, is_found, looks_left, needs_file, steps_left, unread_at, LiesAhead}
+use Rattle.conn_loop.specs.Standing.{path_asked, path_asked_at, Standing, at_first, Accounts, AccountsUnless, AsksFor, HasAsked, HasLooked, IsAt, Looks, Represents, Stands}
+use Rattle.conn_loop.specs.Steps.{to_go}
 use Rattle.conn_loop.proofs.LookLemmas.{looked_absent, looked_found, next_fewer, next_kept}
 use Rattle.conn_loop.proofs.StandingLemmas.{accounts_first, accounts_lies, prefix_of}
 use Rattle.conn_loop.proofs.ToldLemmas.{told_kept}

@@ -1,5 +1,5 @@
 -- The fields of a connection, and the request that its head makes.
-use Rattle.std.proofs.Common.{◌≡◌, ℕ, List, [], ◌∷◌, ◌++◌, drop, Option, Some, None, refl, sym, ap, ◌∙◌, append-nil}
+use Rattle.std.proofs.Common.{◌≡◌, ℕ, List, [], ◌∷◌, ◌++◌, drop, Option, None, refl, sym, ap, ◌∙◌, append-nil}
 use Rattle.httparse.specs.Spans.{span_bytes}
 use Rattle.warp_request.specs.Verdict.{Asked}
 use Rattle.warp_request.specs.declared.verdict.HeadInfo.{HeadInfo}

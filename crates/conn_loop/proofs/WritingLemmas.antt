@@ -1,6 +1,6 @@
 -- What was written, piece by piece, and what it makes of a connection.
-use Rattle.std.proofs.Common.{◌≡◌, ◌≢◌, ℕ, ◌+◌, ◌-◌, ◌<◌, ◌≤◌, List, [], ◌++◌, length, take, drop, Option, Some, None, option_map, refl, sym, ap, ◌∙◌, append_assoc, append-nil, length-append, length-drop, subst, arith, inl, inr}
-use Rattle.std.specs.Prelude.{IfSome, min, nat_lt, Bool, true, false, if◌then◌else◌, ◌⊎◌, ◌||◌}
+use Rattle.std.proofs.Common.{◌≡◌, ℕ, ◌+◌, ◌-◌, ◌<◌, ◌≤◌, List, [], ◌++◌, length, take, drop, Option, Some, None, option_map, refl, sym, ap, ◌∙◌, append_assoc, append-nil, length-append, length-drop, subst, arith, inl, inr}
+use Rattle.std.specs.Prelude.{IfSome, min, nat_lt, Bool, true, false, if◌then◌else◌, ◌⊎◌}
 use Rattle.std.proofs.lemmas.Bool.Decides.{nat_tests}
 use Rattle.std.proofs.lemmas.List.{take_rest, take-append-drop, drop_all}
 use Rattle.std.proofs.Math.Seq.{take-add}

@@ -9,7 +9,7 @@ use Rattle.conn_loop.specs.declared.step.Step.TheVariants.{WantRead, WantWrite, 
 use Rattle.conn_loop.specs.declared.step.End.{End}
 use Rattle.conn_loop.specs.declared.step.End.TheVariants.{Clean, Cut, ReadFault, WriteFault, FileFault, NoMemory}
 use Rattle.conn_loop.specs.Stages.{failing, FailsBy}
-use Rattle.conn_loop.specs.Standing.{Standing, Counted, IsAsking}
+use Rattle.conn_loop.specs.Standing.{Standing}
 
 -- A fault is answered only where the count of its own kind rose: that of the link in this call, that of the files in this call
 -- or in the one where the connection began to fail. Want of memory is answered only where it was supplied.

@@ -9,7 +9,7 @@ use Rattle.conn_loop.specs.declared.step.Step.{Step}
 use Rattle.conn_loop.specs.declared.step.Step.TheVariants.{WantRead, WantWrite, WantFile, Done}
 use Rattle.conn_loop.specs.declared.step.End.TheVariants.{Clean, Cut, ReadFault, WriteFault, FileFault, NoMemory}
 use Rattle.conn_loop.specs.Answers.{answers_of, finals_of, rest_of, IsClosed, IsOpen}
-use Rattle.conn_loop.specs.Replying.{Replying, Serving, replies}
+use Rattle.conn_loop.specs.Replying.{Replying, Serving}
 
 -- what was sent is a prefix of the answers, at no more moments than they call for
 pub record SendsPrefix (reply : Replying) (moments taken sent : List ℕ) : Type 0 where

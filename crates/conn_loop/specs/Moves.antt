@@ -1,5 +1,5 @@
 -- Inner: what the steps of a connection do to what it holds and to what is told of its link.
-use Rattle.std.specs.Prelude.{◌≡◌, ℕ, ◌+◌, ◌^◌, ◌<◌, ◌≤◌, Bool, true, false, List, [], ◌∷◌, ◌++◌, length, take, drop, Option, Some, None, IfSome, IsSomeAnd, if◌then◌else◌, min, nat_lt}
+use Rattle.std.specs.Prelude.{◌≡◌, ℕ, ◌+◌, ◌^◌, ◌<◌, ◌≤◌, true, false, List, [], ◌∷◌, ◌++◌, length, take, drop, Option, Some, None, IfSome, IsSomeAnd, if◌then◌else◌, min, nat_lt}
 use Rattle.outside.specs.Causes.{LinkTold, Read}
 use Rattle.outside.specs.Counts.{full}
 use Rattle.outside.specs.FileCauses.{FilesTold, ReadPart}

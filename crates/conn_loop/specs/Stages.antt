@@ -1,5 +1,5 @@
 -- Inner: where a connection stands with the request at the front of its input, and which bytes aren't answered there.
-use Rattle.std.specs.Prelude.{◌≡◌, ◌⊎◌, ℕ, ◌+◌, ◌*◌, ◌-◌, ◌^◌, ◌≤◌, ◌<◌, Bool, true, false, List, [], ◌++◌, length, take, drop, Option, Some, None}
+use Rattle.std.specs.Prelude.{◌≡◌, ◌⊎◌, ℕ, ◌+◌, ◌*◌, ◌-◌, ◌^◌, ◌≤◌, Bool, true, false, List, [], ◌++◌, length, take, drop, Option, Some, None}
 use Rattle.outside.specs.Folder.{Content, Folder, file_at}
 use Rattle.outside.specs.Counts.{Rises}
 use Rattle.app_trait.specs.declared.request.Seen.{Seen}

@@ -1,5 +1,5 @@
 -- Inner: what a connection holds, and for which bytes, taken and sent, it stands.
-use Rattle.std.specs.Prelude.{◌≡◌, ◌⊎◌, ℕ, ◌+◌, ◌≤◌, ◌<◌, Bool, List, [], ◌++◌, length, drop, Option, Some, None, option_map, IfSome, IsSomeAnd, min}
+use Rattle.std.specs.Prelude.{◌≡◌, ℕ, ◌+◌, ◌<◌, Bool, List, [], ◌++◌, length, Option, Some, None, option_map, IfSome, IsSomeAnd, min}
 use Rattle.outside.specs.Causes.{LinkTold}
 use Rattle.outside.specs.Counts.{full}
 use Rattle.outside.specs.Folder.{Folder, Content, file_at}

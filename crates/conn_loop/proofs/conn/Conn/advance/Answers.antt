@@ -1,4 +1,4 @@
-use Rattle.std.proofs.Common.{◌≡◌, ◌∙◌, ap, sym, refl, arith, ℕ, List, Option, None, Some}
+use Rattle.std.proofs.Common.{◌≡◌, ◌∙◌, ap, sym, refl, arith, ℕ, List, Option}
 use Rattle.conn_loop.specs.Standing.{Standing, held_lease}
 use Rattle.conn_loop.proofs.CauseLemmas.{clocked_kept, clocked_none, files_none}
 use Rattle.conn_loop.proofs.KeptLemmas.{caused_of, counted_of, if_ended, if_none, if_over, if_some, kept_asks, kept_fewer, kept_file}

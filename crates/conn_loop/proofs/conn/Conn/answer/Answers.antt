@@ -1,4 +1,4 @@
-use Rattle.std.proofs.Common.{◌≡◌, ◌≤◌, ◌∙◌, ◌-◌, ◌+◌, ◌*◌, ap, sym, subst, List, ℕ, arith, length, Option, option_map}
+use Rattle.std.proofs.Common.{◌≤◌, ◌∙◌, ◌-◌, ◌+◌, ◌*◌, ap, sym, subst, List, ℕ, arith, length, Option, option_map}
 use Rattle.fd_cache.specs.declared.lease.Lease.{Lease}
 use Rattle.httparse.specs.Spans.{span_bytes}
 use Rattle.warp_response.specs.declared.response.LastWord.{LastWord}
@@ -6,7 +6,7 @@ use Rattle.warp_response.specs.Head.{head_text}
 use Rattle.warp_response.specs.Reply.{IsResponseFor, head_of}
 use Rattle.conn_loop.specs.Heads.{asked_in}
 use Rattle.conn_loop.specs.declared.phase.Phase.{Phase}
-use Rattle.conn_loop.specs.Phases.{HasFound, HasLease, over_in, stage_in}
+use Rattle.conn_loop.specs.Phases.{HasFound, HasLease, over_in}
 use Rattle.conn_loop.specs.Standing.{Standing}
 use Rattle.conn_loop.proofs.ViewLemmas.{ready_at, answered_is}
 use Rattle.conn_loop.proofs.RespondLemmas.{can_target, sends_size, way_fits}

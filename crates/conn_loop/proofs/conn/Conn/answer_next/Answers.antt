@@ -1,4 +1,4 @@
-use Rattle.std.proofs.Common.{◌≡◌, ◌<◌, ◌≤◌, ◌∙◌, ap, sym, subst, arith, ℕ, List, [], ◌∷◌, ◌++◌, length, None, Some}
+use Rattle.std.proofs.Common.{◌≡◌, ◌<◌, ◌∙◌, ap, sym, subst, arith, ℕ, List, [], ◌∷◌, ◌++◌, length, None, Some}
 use Rattle.conn_loop.specs.Stages.{Stage, failing, refusing, steps_left}
 use Rattle.conn_loop.specs.Standing.{AsksFor, IsAskingStage, Standing, held_lease}
 use Rattle.conn_loop.specs.Steps.{IsPlain, to_go}

@@ -1,9 +1,7 @@
-use Rattle.std.proofs.Common.{◌≡◌, ◌∙◌, ap, sym, arith, length, length-append, List, ℕ}
+use Rattle.std.proofs.Common.{◌∙◌, ap, arith, length, length-append, List, ℕ}
 use Rattle.conn_loop.specs.Phases.{stage_in}
 use Rattle.conn_loop.specs.Stages.{Stage}
-use Rattle.conn_loop.specs.Standing.{Standing}
 use Rattle.conn_loop.specs.Steps.{stage_after}
-use Rattle.conn_loop.proofs.MeasureLemmas.{wanting_room}
 use Rattle.conn_loop.proofs.StepLemmas.{taken_same}
 use Rattle.conn_loop.proofs.ViewLemmas.{filled_is, stage_grown}
 use Rattle.conn_loop.proofs.conn.Conn.fill.Goals as goal

@@ -1,4 +1,4 @@
-use Rattle.std.proofs.Common.{◌≡◌, ◌∙◌, ◌++◌, ap, sym, subst, take, drop, List, ℕ}
+use Rattle.std.proofs.Common.{◌≡◌, ◌∙◌, ◌++◌, ap, sym, take, drop, List, ℕ}
 use Rattle.warp_request.specs.Verdict.{asked}
 use Rattle.conn_loop.specs.Heads.{asked_in}
 use Rattle.conn_loop.specs.Stages.{reading}

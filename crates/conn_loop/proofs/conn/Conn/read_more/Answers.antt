@@ -1,8 +1,7 @@
-use Rattle.std.proofs.Common.{ap, arith, length, ◌<◌}
+use Rattle.std.proofs.Common.{arith, ◌<◌}
 use Rattle.std.proofs.lemmas.Bool.{both_ways}
 use Rattle.conn_loop.specs.declared.step.Step.TheVariants.{WantRead, Done}
 use Rattle.conn_loop.specs.declared.step.End.TheVariants.{Clean, Cut, ReadFault}
-use Rattle.conn_loop.specs.Standing.{Standing}
 use Rattle.conn_loop.specs.Steps.{to_go}
 use Rattle.conn_loop.proofs.MeasureLemmas.{got_nearer}
 use Rattle.conn_loop.proofs.StepLemmas.{idle_of, stop_for, got_for}

@@ -1,4 +1,4 @@
-use Rattle.std.proofs.Common.{rules, ◌∙◌, ap, arith}
+use Rattle.std.proofs.Common.{◌∙◌, ap, arith}
 use Rattle.warp_response.specs.Reply.{refusal_reply}
 use Rattle.conn_loop.specs.Standing.{Standing}
 use Rattle.conn_loop.proofs.ViewLemmas.{kept_closed, refused_is}

@@ -1,4 +1,4 @@
-use Rattle.std.proofs.Common.{◌≡◌, ◌<◌, ◌≤◌, ◌∙◌, ap, sym, subst, refl, arith, ℕ, List, [], ◌∷◌, ◌++◌, None, Some}
+use Rattle.std.proofs.Common.{◌≡◌, ◌<◌, ◌∙◌, ap, sym, subst, refl, arith, ℕ, List, [], ◌∷◌, ◌++◌, None, Some}
 use Rattle.conn_loop.specs.declared.step.Step.TheVariants.{WantFile}
 use Rattle.conn_loop.specs.Moves.{stage_behind}
 use Rattle.conn_loop.specs.Stages.{Stage, failing, IsReadyStage}

@@ -1,6 +1,5 @@
-use Rattle.std.proofs.Common.{◌≡◌, ◌<◌, ◌∙◌, ap, sym, subst, arith, ℕ, None, Some}
+use Rattle.std.proofs.Common.{◌<◌, sym, subst, arith, None, Some}
 use Rattle.conn_loop.specs.Replying.{serving_over}
-use Rattle.conn_loop.specs.Stages.{Stage}
 use Rattle.conn_loop.specs.Standing.{Standing}
 use Rattle.conn_loop.specs.Steps.{IsSendingStage, to_go}
 use Rattle.conn_loop.proofs.CauseLemmas.{goes_over, goes_part, goes_then}

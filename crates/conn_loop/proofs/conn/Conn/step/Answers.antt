@@ -1,9 +1,7 @@
-use Rattle.std.proofs.Common.{◌≡◌, ◌∙◌, ap, sym, subst, refl, arith, None, Some}
-use Rattle.conn_loop.specs.declared.step.Step.{Step}
+use Rattle.std.proofs.Common.{◌≡◌, ap, sym, subst, refl, arith}
 use Rattle.conn_loop.specs.Replying.{serving_over}
 use Rattle.conn_loop.specs.Stages.{Stage}
 use Rattle.conn_loop.specs.Standing.{AsksFor, IsAskingStage, Standing, held_lease}
-use Rattle.conn_loop.specs.Steps.{to_go}
 use Rattle.conn_loop.proofs.CauseLemmas.{clocked_none, ends_over, end_fault, goes_over, goes_waits}
 use Rattle.conn_loop.proofs.MeasureLemmas.{to_go_same}
 use Rattle.conn_loop.proofs.StageLemmas.{sending_asks, sending_quiet}

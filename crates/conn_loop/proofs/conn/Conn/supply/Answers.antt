@@ -1,4 +1,4 @@
-use Rattle.std.proofs.Common.{rules, None}
+use Rattle.std.proofs.Common.{None}
 use Rattle.conn_loop.specs.Standing.{path_asked}
 use Rattle.conn_loop.proofs.SupplyLemmas.{absent_is, fails_for, fails_nearer, found_is, sees_asked, sees_for, sees_nearer}
 use Rattle.conn_loop.proofs.conn.Conn.supply.Goals as goal

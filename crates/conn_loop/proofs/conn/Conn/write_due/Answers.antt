@@ -1,4 +1,3 @@
-use Rattle.std.proofs.Common.{refl}
 use Rattle.conn_loop.specs.declared.writing.WriteEnd.TheVariants.{All, Waits, Fails}
 use Rattle.conn_loop.proofs.StepLemmas.{due_for}
 use Rattle.conn_loop.proofs.CauseLemmas.{goes_due}
