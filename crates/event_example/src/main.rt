@@ -29,7 +29,10 @@ const TURNS: u32 = 8;
 fn main(rt: HostRuntime) -> Result<()> {
     let mut example = Example::new(&rt, rt.alloc())?;
     let opening = example.opening;
-    println!(rt; "descriptor {}: waits with mark {}", opening.fd, opening.number)?;
+    println!(rt;
+        "descriptor {}: a job waits with mark {}",
+        opening.fd, opening.number
+    )?;
     for number in 1..=TURNS {
         let Turned::Done { reports, ran } = example.take_turn(&rt) else {
             bail!("turn {number} wasn't done");
@@ -37,10 +40,10 @@ fn main(rt: HostRuntime) -> Result<()> {
         println!(rt; "turn {number}: runs {ran}, reports {reports}")?;
         match example.runner.body.went.take() {
             Some(Went::On { read, mark }) => {
-                println!(rt; "  read {read} bytes until `NotYet`; waits with mark {mark}")?;
+                println!(rt; "  {read} bytes, then `NotYet`: waits again with mark {mark}")?;
             }
             Some(Went::ToTheEnd { read }) => {
-                println!(rt; "  read {read} bytes to the end; closed")?;
+                println!(rt; "  {read} bytes, then the end: closed")?;
                 return Ok(());
             }
             None => {}

@@ -50,9 +50,14 @@ impl Example {
             link: Box::new(alloc, link)?,
         });
         let mark = Some(opening.number);
-        let RegisterReply::Waits(_, None) =
-            mgr.register(rt, &mut pass, opening, Dir::Read, mark, job)
-        else {
+        let RegisterReply::Waits(_, None) = mgr.register(
+            rt,
+            &mut pass,
+            opening,
+            Dir::Read,
+            mark,
+            job,
+        ) else {
             bail!("the job doesn't wait");
         };
         Ok(Example {
