@@ -1,14 +1,13 @@
 //! What reads the connection: its job, and what a run does with it.
-ghost use Rattle.std.specs.Prelude.{◌≡◌, ◌<◌, [], IfNone};
-ghost use Rattle.std.specs.Option.{option_to_list};
+ghost use Rattle.std.specs.Prelude.{◌≡◌, [], IfNone};
 ghost use Rattle.event_mgr.specs.Manager.{IsOfMgr, mgr_view};
-ghost use Rattle.dispatcher.specs.Runs.{HasMadeCalls, events_of};
+ghost use Rattle.dispatcher.specs.Runs.{HasMadeCalls, events_of, named_by_register};
 
 use dispatcher::{EventPair, Run, calls_of_runs};
 use event_mgr::{EventManager, MgrPass};
 use outside::{Link, ReadOut};
 use poller::MemLink;
-use reg_keys::{Dir, Event, Opening};
+use reg_keys::{Dir, Opening};
 use std::sync::Wait;
 use stripe_table::{Fired, Load, Payload, RegisterReply};
 
@@ -56,22 +55,21 @@ impl Run<Job> for Reader {
         // A law of the calls that a run may make, for the proof: it does nothing when run.
         calls_of_runs::<Job>();
         let Some(mut job) = fired.job.take() else {
-            return named(None);
+            return no_events();
         };
         match drain(&mut job.link) {
             Drained::NotYet(read) => self.wait_again(rt, mgr, pass, job, read, fired.marks.read),
             Drained::Over(read) => {
                 self.went = Some(Went::ToTheEnd { read });
                 let _closed = mgr.close_fd(rt, pass, job.opening);
-                named(None)
+                no_events()
             }
         }
     }
 }
 
 impl Reader {
-    /// Registers the job again. A run gives the event that its registration named, and the dispatcher queues
-    /// it. A job that is refused comes back, and is dropped here with its link.
+    /// Registers the job again. A job that is refused comes back in the reply, and is dropped with its link.
     fn wait_again<R: Wait>(
         &mut self,
         rt: &R,
@@ -85,27 +83,37 @@ impl Reader {
         ensures own { IsOfMgr mgr.now pass.new }
         ensures made { HasMadeCalls (mgr_view pass.old) (events_of result) (mgr_view pass.new) }
     {
+        // A law of the calls that a run may make, for the proof: it does nothing when run.
         calls_of_runs::<Job>();
         let opening = job.opening;
-        match mgr.register(rt, pass, opening, Dir::Read, Some(mark), Payload::Job(job)) {
-            RegisterReply::Waits(_, event) => {
-                self.went = Some(Went::On { read, mark });
-                named(event)
-            }
-            RegisterReply::Shut(_) => named(None),
-            RegisterReply::Crowded(_) => named(None),
-            RegisterReply::Spent(_) => named(None),
+        let reply = mgr.register(rt, pass, opening, Dir::Read, Some(mark), Payload::Job(job));
+        if matches!(reply, RegisterReply::Waits(_, _)) {
+            self.went = Some(Went::On { read, mark });
         }
+        events_of_reply(reply)
     }
 }
 
-/// The events of a run that named this one, if any.
-fn named(event: Option<Event>) -> EventPair
-    ensures { events_of result ≡ option_to_list event }
+/// What a run gives that names no event.
+fn no_events() -> EventPair
+    ensures { events_of result ≡ [] }
 {
     EventPair {
-        first: event,
+        first: None,
         second: None,
+    }
+}
+
+/// The event that a registration named, if any. The dispatcher queues what a run gives.
+fn events_of_reply(reply: RegisterReply<Job>) -> EventPair
+    ensures { events_of result ≡ named_by_register reply }
+{
+    match reply {
+        RegisterReply::Waits(_, event) => EventPair {
+            first: event,
+            second: None,
+        },
+        RegisterReply::Shut(_) | RegisterReply::Crowded(_) | RegisterReply::Spent(_) => no_events(),
     }
 }
 
