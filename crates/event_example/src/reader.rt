@@ -113,7 +113,8 @@ fn events_of_reply(reply: RegisterReply<Job>) -> EventPair
             first: event,
             second: None,
         },
-        RegisterReply::Shut(_) | RegisterReply::Crowded(_) | RegisterReply::Spent(_) => no_events(),
+        RegisterReply::Shut(_back) | RegisterReply::Crowded(_back) | RegisterReply::Spent(_back) =>
+            { no_events() }
     }
 }
 

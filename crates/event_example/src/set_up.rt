@@ -30,12 +30,13 @@ pub(crate) struct Example {
     pub runner: PlainRunner<MemPoller, Reader>,
     reports: Reports,
     pub opening: Opening,
-    ghost own: { AreOf mgr queue passes },
 }
 
 impl Example {
     /// A connection under an opening of a manager. Its job waits for the first report.
-    pub(crate) fn new<R: Wait>(rt: &R, alloc: Global) -> Result<Example> {
+    pub(crate) fn new<R: Wait>(rt: &R, alloc: Global) -> Result<Example>
+        ensures { IfOk result (λ example. AreOf example.mgr example.queue example.passes) }
+    {
         let (mgr, mut pass) = EventManager::new(alloc)?;
         let (queue, place) = ReadyQueue::new(alloc, QUEUE)?;
         let (mut link, mut poller) = connection(alloc)?;
@@ -60,21 +61,24 @@ impl Example {
         ) else {
             bail!("the job doesn't wait");
         };
+        let passes = DispPass::new(alloc, pass, place)?;
+        let reports = Reports::new(alloc)?;
+        let body = Reader { went: None };
         Ok(Example {
             mgr,
             queue,
-            passes: DispPass::new(alloc, pass, place)?,
-            runner: PlainRunner {
-                poller,
-                body: Reader { went: None },
-            },
-            reports: Reports::new(alloc)?,
+            passes,
+            runner: PlainRunner { poller, body },
+            reports,
             opening,
         })
     }
 
     /// One turn of the dispatcher.
-    pub(crate) fn take_turn<R: Wait>(&mut self, rt: &R) -> Turned {
+    pub(crate) fn take_turn<R: Wait>(&mut self, rt: &R) -> Turned
+        requires { AreOf self.old.mgr self.old.queue self.old.passes }
+        ensures { AreOf self.new.mgr self.new.queue self.new.passes }
+    {
         self.reports.clear();
         turn(
             rt,

@@ -13,6 +13,6 @@ returns-in_default-clause-made g c =
 pub returns-in-Over-clause-made : goal.returns-in-Over-clause-made
 returns-in-Over-clause-made g c =
     let before = mgr_view c.args.pass.now in
-    let after = mgr_view c.close_fd.new.pass in
+    let after = mgr_view c.close_fd-closed.new.pass in
     subst (λ (events : List EventName). HasMadeCalls before events after) (sym c.no_events-in-Over.ensures)
-    (c.calls_of_runs.ensures.closed c.in-Some.job.opening before c.close_fd.result after c.close_fd.ensures.step)
+    (c.calls_of_runs.ensures.closed c.in-Some.job.opening before c.close_fd-closed.result after c.close_fd-closed.ensures.step)
