@@ -23,7 +23,7 @@ BUILT = os.path.join(HERE, "..", "..", "crates", "event_bench", "out", "event_be
 CALLS = {"report": 1, "register": 2, "dispatch": 2, "cycle": 3}
 SIZES = (8, 400)
 THREADS = (1, 2, 4)
-ROUNDS = 400_000
+ROUNDS = 200_000
 REPEATS = 5
 # Rounds of a run whose instructions are counted: they are the same each time, and valgrind is slow.
 COUNTED = 2_000

@@ -1,7 +1,6 @@
 -- What a run's calls come to: each call of the manager that a run may make, and several of them.
-use Rattle.std.proofs.Common.{◌≡◌, ℕ, ◌⊎◌, inl, inr, ⊎_elim, List, [], ◌∷◌, ◌++◌, map, sym, refl, ap, ◌∙◌, subst, arith}
-use Rattle.std.specs.Prelude.{Option, slice_get, Some}
-use Rattle.std.specs.Option.{option_to_list}
+use Rattle.std.proofs.Common.{◌≡◌, ℕ, ⊎_elim, List, [], ◌∷◌, ◌++◌, map, sym, refl, ap, ◌∙◌, subst, arith}
+use Rattle.std.specs.Prelude.{Option}
 use Rattle.std.proofs.lemmas.List.{append_assoc, append-nil}
 use Rattle.reg_keys.specs.declared.opening.Opening.{Opening}
 use Rattle.reg_keys.specs.declared.event.EventName.{EventName}
@@ -22,7 +21,7 @@ use Rattle.turn_cell.proofs.Weights.{weigh-append}
 use Rattle.stripe_table.specs.declared.load.Payload.{Payload}
 use Rattle.stripe_table.specs.declared.calls.RegisterReply.{RegisterReply}
 use Rattle.stripe_table.specs.declared.calls.RegisterReply.TheVariants as Register
-use Rattle.stripe_table.specs.Calls.{kind_of, kind_of_job, shut_key, registered}
+use Rattle.stripe_table.specs.Calls.{kind_of, kind_of_job, shut_key}
 use Rattle.event_mgr.specs.declared.numbers.NumbersEntry.{NumbersEntry}
 use Rattle.event_mgr.specs.declared.answers.OpenOut.{OpenOut}
 use Rattle.event_mgr.specs.declared.answers.OpenOut.TheVariants as Open
@@ -34,7 +33,7 @@ use Rattle.event_mgr.specs.declared.answers.CloseOut.{CloseOut}
 use Rattle.event_mgr.specs.declared.answers.CloseOut.TheVariants as Close
 use Rattle.event_mgr.specs.Rows.{At}
 use Rattle.event_mgr.specs.Stripes.{stripe_of, StripeEntered, StripeSpent, NumbersEntered, NumbersSpent, GivenBack}
-use Rattle.event_mgr.specs.Manager.{MgrView, OnlyAt, EnteredAt, SpentAt, DrewInVain, HasOpened, HasRegistered, HasWithdrawn, HasAsked, HasClosed}
+use Rattle.event_mgr.specs.Manager.{MgrView, EnteredAt, SpentAt, DrewInVain, HasOpened, HasRegistered, HasWithdrawn, HasAsked, HasClosed}
 use Rattle.event_mgr.specs.Weighing.{CallsWeigh}
 use Rattle.dispatcher.specs.Entries.{named_by, IsOfRun}
 use Rattle.dispatcher.specs.Stripes.{Each, HasGrown, AreOfRun, weigh_shown}

@@ -1,5 +1,4 @@
-use Rattle.std.specs.Prelude.{List, Option, Some, None}
-use Rattle.std.specs.Option.{option_to_list}
+use Rattle.std.specs.Prelude.{List, None}
 use Rattle.std.proofs.Common.{sym, subst}
 use Rattle.reg_keys.specs.declared.event.EventName.{EventName}
 use Rattle.reg_keys.specs.declared.registration.Dir.TheVariants.{Read}
