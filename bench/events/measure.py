@@ -6,9 +6,13 @@
 PROGRAM is a built `event_bench`; without it, crates/event_bench/out/event_bench. Each figure is the least of
 several runs, less the least of as many runs without rounds, by the rounds of one thread. `processor` is the time
 that all threads took together by the rounds of all of them, `wall` the time that passed by the rounds of one.
+`instructions` are those of a round on one thread, the program's own code alone, as valgrind counts them; without
+valgrind the column is empty. The first and last lines tell how loaded the machine was.
 """
 import os
+import re
 import resource
+import shutil
 import subprocess
 import sys
 import time
@@ -19,8 +23,10 @@ BUILT = os.path.join(HERE, "..", "..", "crates", "event_bench", "out", "event_be
 CALLS = {"report": 1, "register": 2, "dispatch": 2, "cycle": 3}
 SIZES = (8, 400)
 THREADS = (1, 2, 4)
-ROUNDS = 400_000
+ROUNDS = 200_000
 REPEATS = 5
+# Rounds of a run whose instructions are counted: they are the same each time, and valgrind is slow.
+COUNTED = 2_000
 # No run may take longer than this.
 SECONDS = 120
 
@@ -43,6 +49,25 @@ def least(program, what, size, threads, rounds):
     return min(wall for wall, _ in runs), min(spent for _, spent in runs)
 
 
+def counted(program, what, size, rounds):
+    """The instructions of one run of one thread."""
+    words = ["valgrind", "--tool=callgrind", "--callgrind-out-file=/dev/null", program, what, str(size), "1", str(rounds)]
+    told = subprocess.run(words, capture_output=True, text=True, timeout=SECONDS, check=True).stderr
+    return int(re.search(r"Collected : (\d+)", told)[1])
+
+
+def instructions(program, what, size):
+    """The instructions of a round on one thread, or None where valgrind isn't there."""
+    if shutil.which("valgrind") is None:
+        return None
+    return (counted(program, what, size, COUNTED) - counted(program, what, size, 0)) / COUNTED
+
+
+def load():
+    one, five, _ = os.getloadavg()
+    return f"load {one:.2f} over the last minute and {five:.2f} over five, {os.cpu_count()} processors"
+
+
 def cost(program, what, size, threads):
     """Nanoseconds of a round: as time passes for one thread, and of a processor."""
     full = least(program, what, size, threads, ROUNDS)
@@ -55,22 +80,32 @@ def cost(program, what, size, threads):
 
 def main():
     program = sys.argv[1] if len(sys.argv) > 1 else BUILT
+    print(load())
     costs = {}
     for what in CALLS:
         for size in SIZES:
             for threads in THREADS:
                 costs[what, size, threads] = cost(program, what, size, threads)
-    print(f"{'round':9} {'calls':>5} {'job':>4} {'threads':>7} {'wall ns':>8} {'processor ns':>12} {'wall':>6} {'processor':>9}")
+    counts = {(what, size): instructions(program, what, size) for what in CALLS for size in SIZES}
+    print(
+        f"{'round':9} {'calls':>5} {'job':>4} {'threads':>7} {'wall ns':>8} {'processor ns':>12} {'instructions':>12}"
+        f" {'wall':>6} {'processor':>9}"
+    )
     for (what, size, threads), (wall, spent) in costs.items():
         one_wall, one_spent = costs[what, size, 1]
+        count = counts[what, size] if threads == 1 else None
         print(
-            f"{what:9} {CALLS[what]:5} {size:4} {threads:7} {wall:8.0f} {spent:12.0f}"
+            f"{what:9} {CALLS[what]:5} {size:4} {threads:7} {wall:8.0f} {spent:12.0f} {'' if count is None else round(count):>12}"
             f" {wall / one_wall:6.2f} {spent / one_spent:9.2f}"
         )
     print()
     for what in CALLS:
-        ratio = costs[what, 400, 1][1] / costs[what, 8, 1][1]
-        print(f"{what}: a job of 400 bytes costs {ratio:.2f} times one of 8")
+        by_time = costs[what, 400, 1][1] / costs[what, 8, 1][1]
+        line = f"{what}: a job of 400 bytes costs {by_time:.2f} times one of 8 by processor time"
+        if counts[what, 8] is not None:
+            line += f", {counts[what, 400] / counts[what, 8]:.2f} times by instructions"
+        print(line)
+    print(load())
 
 
 if __name__ == "__main__":

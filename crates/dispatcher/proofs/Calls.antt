@@ -1,7 +1,6 @@
 -- What a run's calls come to: each call of the manager that a run may make, and several of them.
-use Rattle.std.proofs.Common.{◌≡◌, ℕ, ◌⊎◌, inl, inr, ⊎_elim, List, [], ◌∷◌, ◌++◌, map, sym, refl, ap, ◌∙◌, subst, arith}
-use Rattle.std.specs.Prelude.{Option, slice_get, Some}
-use Rattle.std.specs.Option.{option_to_list}
+use Rattle.std.proofs.Common.{◌≡◌, ℕ, ⊎_elim, List, [], ◌∷◌, ◌++◌, map, sym, refl, ap, ◌∙◌, subst, arith}
+use Rattle.std.specs.Prelude.{Option}
 use Rattle.std.proofs.lemmas.List.{append_assoc, append-nil}
 use Rattle.reg_keys.specs.declared.opening.Opening.{Opening}
 use Rattle.reg_keys.specs.declared.event.EventName.{EventName}
@@ -22,7 +21,7 @@ use Rattle.turn_cell.proofs.Weights.{weigh-append}
 use Rattle.stripe_table.specs.declared.load.Payload.{Payload}
 use Rattle.stripe_table.specs.declared.calls.RegisterReply.{RegisterReply}
 use Rattle.stripe_table.specs.declared.calls.RegisterReply.TheVariants as Register
-use Rattle.stripe_table.specs.Calls.{kind_of, kind_of_job, shut_key, registered}
+use Rattle.stripe_table.specs.Calls.{kind_of, kind_of_job, shut_key}
 use Rattle.event_mgr.specs.declared.numbers.NumbersEntry.{NumbersEntry}
 use Rattle.event_mgr.specs.declared.answers.OpenOut.{OpenOut}
 use Rattle.event_mgr.specs.declared.answers.OpenOut.TheVariants as Open
@@ -34,8 +33,8 @@ use Rattle.event_mgr.specs.declared.answers.CloseOut.{CloseOut}
 use Rattle.event_mgr.specs.declared.answers.CloseOut.TheVariants as Close
 use Rattle.event_mgr.specs.Rows.{At}
 use Rattle.event_mgr.specs.Stripes.{stripe_of, StripeEntered, StripeSpent, NumbersEntered, NumbersSpent, GivenBack}
-use Rattle.event_mgr.specs.Manager.{MgrView, OnlyAt, EnteredAt, SpentAt, DrewInVain, HasOpened, HasRegistered, HasWithdrawn, HasAsked, HasClosed}
-use Rattle.event_mgr.proofs.Weights.{entered_weighs, spent_weighs}
+use Rattle.event_mgr.specs.Manager.{MgrView, EnteredAt, SpentAt, DrewInVain, HasOpened, HasRegistered, HasWithdrawn, HasAsked, HasClosed}
+use Rattle.event_mgr.specs.Weighing.{CallsWeigh}
 use Rattle.dispatcher.specs.Entries.{named_by, IsOfRun}
 use Rattle.dispatcher.specs.Stripes.{Each, HasGrown, AreOfRun, weigh_shown}
 use Rattle.dispatcher.specs.Runs.{RunsAt, HasMadeCalls, named_by_register}
@@ -102,7 +101,7 @@ calls_then u xs v ys w a b = record {
 
 -- ---- one call
 
-module _ (s : ℕ) (v w : MgrView) (grown : HasGrown v.numbers w.numbers) where
+module _ {T : Type 0} {tag : T → List (List ℕ)} (law : CallsWeigh tag) (s : ℕ) (v w : MgrView) (grown : HasGrown v.numbers w.numbers) where
   -- the view before, where the numbers are as after
   abbrev between : MgrView
   between = record { stripes = v.stripes; numbers = w.numbers }
@@ -114,26 +113,18 @@ module _ (s : ℕ) (v w : MgrView) (grown : HasGrown v.numbers w.numbers) where
   calls_at e of a = record {
     stripes = runs_at (StripeEntered s e) (runs_entered s e of) a;
     numbers = grown;
-    named = λ h. entered_weighs (λ t. weigh h (named_by t)) s between w e (record { stripe = a; numbers = refl });
+    named = λ h. law.entered s e between w (record { stripe = a; numbers = refl }) (λ t. weigh h (named_by t));
   }
 
   calls_spent : At s (StripeSpent s) v.stripes w.stripes → HasMadeCalls v [] w
   calls_spent a = record {
     stripes = runs_at (StripeSpent s) (runs_spent s) a;
     numbers = grown;
-    named = λ h. let k : weigh_shown named_by h w ≡ weigh_shown named_by h v = spent_weighs (λ t. weigh h (named_by t)) s between w (record { stripe = a; numbers = refl }) in omega arith;
+    named = λ h. let k : weigh_shown named_by h w ≡ weigh_shown named_by h v = law.spent s between w (record { stripe = a; numbers = refl }) (λ t. weigh h (named_by t)) in omega arith;
   }
 
 same_grown : (v w : MgrView) → w.numbers ≡ v.numbers → HasGrown v.numbers w.numbers
 same_grown v w e = subst (λ z. HasGrown v.numbers z) (sym e) (grown_same v.numbers)
-
--- an entry that a run may make, in one stripe
-pub calls_entered : (s : ℕ) (e : Entry) (v w : MgrView) → IsOfRun e → EnteredAt s e v w → HasMadeCalls v (named_by e) w
-calls_entered s e v w of a = calls_at s v w (same_grown v w a.numbers) e of a.stripe
-
--- no entry, since the stripe's cell is spent
-pub calls_refused : (s : ℕ) (v w : MgrView) → SpentAt s v w → HasMadeCalls v [] w
-calls_refused s v w a = calls_spent s v w (same_grown v w a.numbers) a.stripe
 
 -- no stripe has changed
 still : (v w : MgrView) → w.stripes ≡ v.stripes → HasGrown v.numbers w.numbers → HasMadeCalls v [] w
@@ -143,19 +134,27 @@ still v w e grown = record {
   named = λ h. let k : weigh_shown named_by h w ≡ weigh_shown named_by h v = ap (λ l. weigh_shown named_by h (record { stripes = l; numbers = v.numbers })) e in omega arith;
 }
 
-in_vain : (v w : MgrView) → DrewInVain v w → HasMadeCalls v [] w
-in_vain v w k = let s = stripe_of k.fd in let grown = grown_then v.numbers k.drawn w.numbers (numbers_grown _ v.numbers k.drawn k.drew) (back_grown k.fd k.drawn w.numbers k.back) in let a = k.refused in ⊎_elim
-    (λ t. calls_at s v w grown (Entries.Open k.fd Opens.Spent) tt (record { before = a.before; after = a.after; there = a.there; others = a.others; moved = t }))
-    (λ t. calls_spent s v w grown (record { before = a.before; after = a.after; there = a.there; others = a.others; moved = t }))
-    a.moved
+module _ {T : Type 0} {tag : T → List (List ℕ)} (law : CallsWeigh tag) where
+  -- an entry that a run may make, in one stripe
+  pub calls_entered : (s : ℕ) (e : Entry) (v w : MgrView) → IsOfRun e → EnteredAt s e v w → HasMadeCalls v (named_by e) w
+  calls_entered s e v w of a = calls_at law s v w (same_grown v w a.numbers) e of a.stripe
 
-pub calls_opened : (v : MgrView) (r : OpenOut) (w : MgrView) → HasOpened v r w → HasMadeCalls v [] w
-calls_opened v (Open.Opened o) w k = calls_at (stripe_of o.fd) v w (numbers_grown _ v.numbers w.numbers k.0.numbers) (Entries.Open o.fd (Opens.Opened o)) tt k.0.stripe
-calls_opened v Open.Full w k = still v w k.1 (numbers_grown _ v.numbers w.numbers k.0)
-calls_opened v (Open.Taken o) w k = calls_at (stripe_of o.fd) v w (numbers_grown _ v.numbers w.numbers k.numbers) (Entries.Open o.fd (Opens.Taken o)) tt k.stripe
-calls_opened v Open.Spent w k = ⊎_elim (λ t. still v w t.1 (numbers_spent_grown v.numbers w.numbers t.0)) (λ t. in_vain v w t) k
+  -- no entry, since the stripe's cell is spent
+  pub calls_refused : (s : ℕ) (v w : MgrView) → SpentAt s v w → HasMadeCalls v [] w
+  calls_refused s v w a = calls_spent law s v w (same_grown v w a.numbers) a.stripe
 
-module _ {T : Type 0} (tag : T → List (List ℕ)) where
+  in_vain : (v w : MgrView) → DrewInVain v w → HasMadeCalls v [] w
+  in_vain v w k = let s = stripe_of k.fd in let grown = grown_then v.numbers k.drawn w.numbers (numbers_grown _ v.numbers k.drawn k.drew) (back_grown k.fd k.drawn w.numbers k.back) in let a = k.refused in ⊎_elim
+      (λ t. calls_at law s v w grown (Entries.Open k.fd Opens.Spent) tt (record { before = a.before; after = a.after; there = a.there; others = a.others; moved = t }))
+      (λ t. calls_spent law s v w grown (record { before = a.before; after = a.after; there = a.there; others = a.others; moved = t }))
+      a.moved
+
+  pub calls_opened : (v : MgrView) (r : OpenOut) (w : MgrView) → HasOpened v r w → HasMadeCalls v [] w
+  calls_opened v (Open.Opened o) w k = calls_at law (stripe_of o.fd) v w (numbers_grown _ v.numbers w.numbers k.0.numbers) (Entries.Open o.fd (Opens.Opened o)) tt k.0.stripe
+  calls_opened v Open.Full w k = still v w k.1 (numbers_grown _ v.numbers w.numbers k.0)
+  calls_opened v (Open.Taken o) w k = calls_at law (stripe_of o.fd) v w (numbers_grown _ v.numbers w.numbers k.numbers) (Entries.Open o.fd (Opens.Taken o)) tt k.stripe
+  calls_opened v Open.Spent w k = ⊎_elim (λ t. still v w t.1 (numbers_spent_grown v.numbers w.numbers t.0)) (λ t. in_vain v w t) k
+
   pub calls_registered : (o : Opening) (d : Dir) (m : Option ℕ) (load : Payload T) (v : MgrView) (r : RegisterReply T) (w : MgrView) → HasRegistered tag o d m load v r w → HasMadeCalls v (named_by_register r) w
   calls_registered o d m load v (Register.Waits key e) w k = ⊎_elim (λ t. calls_entered (stripe_of o.fd) (Entries.Register o d m (kind_of tag load) (Registers.Waits key e)) v w tt t.0) (λ t. let z = t.0 in absurd (cc)) k
   calls_registered o d m load v (Register.Shut back) w k = ⊎_elim (λ t. calls_entered (stripe_of o.fd) (Entries.Register o d m (kind_of tag load) Registers.Shut) v w tt t.0) (λ t. let z = t.0 in absurd (cc)) k
@@ -168,13 +167,13 @@ module _ {T : Type 0} (tag : T → List (List ℕ)) where
   calls_withdrawn key v Withdraw.Spent w k = calls_refused (stripe_of key.number) v w k
 
   pub calls_closed : (o : Opening) (v : MgrView) (r : CloseOut T) (w : MgrView) → HasClosed tag o v r w → HasMadeCalls v [] w
-  calls_closed o v (Close.Shut list) w k = calls_at (stripe_of o.fd) v w (back_grown o.fd v.numbers w.numbers k.numbers) (Entries.Close o (Closes.Shut (map (shut_key tag) list))) tt k.stripe
+  calls_closed o v (Close.Shut list) w k = calls_at law (stripe_of o.fd) v w (back_grown o.fd v.numbers w.numbers k.numbers) (Entries.Close o (Closes.Shut (map (shut_key tag) list))) tt k.stripe
   calls_closed o v Close.NotOpen w k = calls_entered (stripe_of o.fd) (Entries.Close o Closes.NotOpen) v w tt k
   calls_closed o v Close.Spent w k = calls_refused (stripe_of o.fd) v w k
 
-pub calls_asked : (key : Key) (v : MgrView) (r : AskOut) (w : MgrView) → HasAsked key v r w → HasMadeCalls v [] w
-calls_asked key v Ask.Waiting w k = calls_entered (stripe_of key.number) (Entries.Ask key Asks.Waiting) v w tt k
-calls_asked key v (Ask.Ran d m) w k = calls_entered (stripe_of key.number) (Entries.Ask key (Asks.Ran d m)) v w tt k
-calls_asked key v Ask.Closed w k = calls_entered (stripe_of key.number) (Entries.Ask key Asks.Closed) v w tt k
-calls_asked key v Ask.Unknown w k = calls_entered (stripe_of key.number) (Entries.Ask key Asks.Unknown) v w tt k
-calls_asked key v Ask.Spent w k = calls_refused (stripe_of key.number) v w k
+  pub calls_asked : (key : Key) (v : MgrView) (r : AskOut) (w : MgrView) → HasAsked key v r w → HasMadeCalls v [] w
+  calls_asked key v Ask.Waiting w k = calls_entered (stripe_of key.number) (Entries.Ask key Asks.Waiting) v w tt k
+  calls_asked key v (Ask.Ran d m) w k = calls_entered (stripe_of key.number) (Entries.Ask key (Asks.Ran d m)) v w tt k
+  calls_asked key v Ask.Closed w k = calls_entered (stripe_of key.number) (Entries.Ask key Asks.Closed) v w tt k
+  calls_asked key v Ask.Unknown w k = calls_entered (stripe_of key.number) (Entries.Ask key Asks.Unknown) v w tt k
+  calls_asked key v Ask.Spent w k = calls_refused (stripe_of key.number) v w k

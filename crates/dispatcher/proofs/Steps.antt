@@ -18,7 +18,7 @@ use Rattle.ready_queue.specs.declared.rule.Move.{Move}
 use Rattle.ready_queue.specs.declared.rule.Move.TheVariants.{Put, Taken}
 use Rattle.ready_queue.specs.Calls.{HasMoved, WasFull}
 use Rattle.event_mgr.specs.Manager.{MgrView, EnteredAt, SpentAt}
-use Rattle.event_mgr.proofs.Weights.{entered_weighs, spent_weighs}
+use Rattle.event_mgr.specs.Weighing.{CallsWeigh}
 use Rattle.dispatcher.specs.declared.runner.AfterRun.{AfterRun}
 use Rattle.dispatcher.specs.Entries.{named_by, dispatched_by}
 use Rattle.dispatcher.specs.Books.{Book, IsBalanced, IsAccounted}
@@ -78,37 +78,6 @@ module _ (capacity : ℕ) where
     queue = moved_grown capacity (Taken e) v w k;
   }
 
-  -- a call was entered that named these events, and dispatched those
-  entered_step : (s : ℕ) (x : Entry) (v w : MgrView) (q : View Move) (hand named gone : List EventName) → EnteredAt s x v w → named_by x ≡ named → dispatched_by x ≡ gone → IsAccounted capacity (book v q hand [] gone) (book w q hand named [])
-  entered_step s x v w q hand named gone a n d = record {
-    balanced = λ h. let i = entered_weighs (λ y. weigh h (named_by y)) s v w x a in let j = entered_weighs (λ y. weigh h (dispatched_by y)) s v w x a in let k = ap (weigh h) n in let l = ap (weigh h) d in omega arith;
-    takes = λ h. let j = entered_weighs (λ y. weigh h (dispatched_by y)) s v w x a in let l = ap (weigh h) d in omega arith;
-    full = inr (record { hand = left_same hand; others = λ h. let j = entered_weighs (λ y. weigh h (dispatched_by y)) s v w x a in let l = ap (weigh h) d in omega arith });
-    queue = grown_same q;
-  }
-
-  pub ran_step : (v w : MgrView) (q : View Move) (hand : List EventName) (s : ℕ) (e : EventName) (rs : List FiredKey) (n : Option EventName) → EnteredAt s (Entries.Dispatch e (Dispatches.Ran rs n)) v w → IsAccounted capacity (book v q hand [] (e ∷ [])) (book w q hand (option_to_list n) [])
-  ran_step v w q hand s e rs n a = entered_step s (Entries.Dispatch e (Dispatches.Ran rs n)) v w q hand (option_to_list n) (e ∷ []) a refl refl
-
-  pub stale_step : (v w : MgrView) (q : View Move) (hand : List EventName) (s : ℕ) (e : EventName) → EnteredAt s (Entries.Dispatch e Dispatches.Stale) v w → IsAccounted capacity (book v q hand [] (e ∷ [])) (book w q hand [] [])
-  stale_step v w q hand s e a = entered_step s (Entries.Dispatch e Dispatches.Stale) v w q hand [] (e ∷ []) a refl refl
-
-  pub noted_step : (v w : MgrView) (q : View Move) (hand : List EventName) (s : ℕ) (o : Opening) (ds : Dirs) (n : Option EventName) → EnteredAt s (Entries.Report o ds (Reports.Noted n)) v w → IsAccounted capacity (book v q hand [] []) (book w q hand (option_to_list n) [])
-  noted_step v w q hand s o ds n a = entered_step s (Entries.Report o ds (Reports.Noted n)) v w q hand (option_to_list n) [] a refl refl
-
-  -- a call was entered that names nothing and dispatches nothing
-  pub nothing_step : (v w : MgrView) (q : View Move) (hand : List EventName) (s : ℕ) (x : Entry) → EnteredAt s x v w → named_by x ≡ [] → dispatched_by x ≡ [] → IsAccounted capacity (book v q hand [] []) (book w q hand [] [])
-  nothing_step v w q hand s x a n d = entered_step s x v w q hand [] [] a n d
-
-  -- no call was entered
-  pub spent_step : (v w : MgrView) (q : View Move) (hand : List EventName) (s : ℕ) → SpentAt s v w → IsAccounted capacity (book v q hand [] []) (book w q hand [] [])
-  spent_step v w q hand s a = record {
-    balanced = λ h. let i = spent_weighs (λ y. weigh h (named_by y)) s v w a in let j = spent_weighs (λ y. weigh h (dispatched_by y)) s v w a in omega arith;
-    takes = λ h. let j = spent_weighs (λ y. weigh h (dispatched_by y)) s v w a in omega arith;
-    full = inr (record { hand = left_same hand; others = λ h. let j = spent_weighs (λ y. weigh h (dispatched_by y)) s v w a in omega arith });
-    queue = grown_same q;
-  }
-
   -- a run gave the events that it named
   pub run_step : (v w : MgrView) (q : View Move) (hand : List EventName) (r : AfterRun) → RunMade v r w → IsAccounted capacity (book v q hand [] []) (book w q hand (events_of (pair_of r)) [])
   run_step v w q hand r k = record {
@@ -138,19 +107,53 @@ module _ (capacity : ℕ) where
   run_deal_step v w q r s xs ys zs result k one two = let p = pair_of result in let b : Book = book v q xs [] [] in let c : Book = book w q xs (events_of p) [] in let d : Book = book w r ys (option_to_list p.second) [] in let e : Book = book w s zs [] [] in
       accounted_then capacity b c e (run_step v w q xs result k) (accounted_then capacity c d e (deal_any_step w q r xs ys p.first (option_to_list p.second) one) (deal_one_step w r s ys zs p.second two))
 
-  -- a dispatch, and what became of the event that it named
-  pub ran_deal_step : (v w : MgrView) (q r : View Move) (xs ys : List EventName) (s : ℕ) (e : EventName) (rs : List FiredKey) (n : Option EventName) → EnteredAt s (Entries.Dispatch e (Dispatches.Ran rs n)) v w → IsPutOrKeptAny capacity n q xs r ys
-      → IsAccounted capacity (book v q xs [] (e ∷ [])) (book w r ys [] [])
-  ran_deal_step v w q r xs ys s e rs n a d = accounted_then capacity (book v q xs [] (e ∷ [])) (book w q xs (option_to_list n) []) (book w r ys [] []) (ran_step v w q xs s e rs n a) (deal_one_step w q r xs ys n d)
+-- Steps that are calls of the manager: what each adds is a law of its calls
+module _ {T : Type 0} {tag : T → List (List ℕ)} (law : CallsWeigh tag) where
+  module _ (capacity : ℕ) where
+    -- a call was entered that named these events, and dispatched those
+    entered_step : (s : ℕ) (x : Entry) (v w : MgrView) (q : View Move) (hand named gone : List EventName) → EnteredAt s x v w → named_by x ≡ named → dispatched_by x ≡ gone → IsAccounted capacity (book v q hand [] gone) (book w q hand named [])
+    entered_step s x v w q hand named gone a n d = record {
+      balanced = λ h. let i = law.entered s x v w a (λ y. weigh h (named_by y)) in let j = law.entered s x v w a (λ y. weigh h (dispatched_by y)) in let k = ap (weigh h) n in let l = ap (weigh h) d in omega arith;
+      takes = λ h. let j = law.entered s x v w a (λ y. weigh h (dispatched_by y)) in let l = ap (weigh h) d in omega arith;
+      full = inr (record { hand = left_same hand; others = λ h. let j = law.entered s x v w a (λ y. weigh h (dispatched_by y)) in let l = ap (weigh h) d in omega arith });
+      queue = grown_same q;
+    }
 
-  -- a report, and what became of the event that it named
-  pub noted_deal_step : (v w : MgrView) (q r : View Move) (xs ys : List EventName) (s : ℕ) (o : Opening) (ds : Dirs) (n : Option EventName) → EnteredAt s (Entries.Report o ds (Reports.Noted n)) v w → IsPutOrKeptAny capacity n q xs r ys
-      → IsAccounted capacity (book v q xs [] []) (book w r ys [] [])
-  noted_deal_step v w q r xs ys s o ds n a d = accounted_then capacity (book v q xs [] []) (book w q xs (option_to_list n) []) (book w r ys [] []) (noted_step v w q xs s o ds n a) (deal_one_step w q r xs ys n d)
+    pub ran_step : (v w : MgrView) (q : View Move) (hand : List EventName) (s : ℕ) (e : EventName) (rs : List FiredKey) (n : Option EventName) → EnteredAt s (Entries.Dispatch e (Dispatches.Ran rs n)) v w → IsAccounted capacity (book v q hand [] (e ∷ [])) (book w q hand (option_to_list n) [])
+    ran_step v w q hand s e rs n a = entered_step s (Entries.Dispatch e (Dispatches.Ran rs n)) v w q hand (option_to_list n) (e ∷ []) a refl refl
 
--- a dispatch was refused, and the event is the last in the hand
-pub refused_balanced : (v w : MgrView) (q : View Move) (hand : List EventName) (s : ℕ) (e : EventName) → EnteredAt s (Entries.Dispatch e Dispatches.Spent) v w ⊎ SpentAt s v w → IsBalanced (book v q hand [] (e ∷ [])) (book w q (hand ++ e ∷ []) [] [])
-refused_balanced v w q hand s e c h = let a = weigh-append h hand (e ∷ []) in let x : Entry = Entries.Dispatch e Dispatches.Spent in ⊎_elim
-    (λ (t : EnteredAt s x v w). let i = entered_weighs (λ y. weigh h (named_by y)) s v w x t in let j = entered_weighs (λ y. weigh h (dispatched_by y)) s v w x t in omega arith)
-    (λ (t : SpentAt s v w). let i = spent_weighs (λ y. weigh h (named_by y)) s v w t in let j = spent_weighs (λ y. weigh h (dispatched_by y)) s v w t in omega arith)
-    c
+    pub stale_step : (v w : MgrView) (q : View Move) (hand : List EventName) (s : ℕ) (e : EventName) → EnteredAt s (Entries.Dispatch e Dispatches.Stale) v w → IsAccounted capacity (book v q hand [] (e ∷ [])) (book w q hand [] [])
+    stale_step v w q hand s e a = entered_step s (Entries.Dispatch e Dispatches.Stale) v w q hand [] (e ∷ []) a refl refl
+
+    pub noted_step : (v w : MgrView) (q : View Move) (hand : List EventName) (s : ℕ) (o : Opening) (ds : Dirs) (n : Option EventName) → EnteredAt s (Entries.Report o ds (Reports.Noted n)) v w → IsAccounted capacity (book v q hand [] []) (book w q hand (option_to_list n) [])
+    noted_step v w q hand s o ds n a = entered_step s (Entries.Report o ds (Reports.Noted n)) v w q hand (option_to_list n) [] a refl refl
+
+    -- a call was entered that names nothing and dispatches nothing
+    pub nothing_step : (v w : MgrView) (q : View Move) (hand : List EventName) (s : ℕ) (x : Entry) → EnteredAt s x v w → named_by x ≡ [] → dispatched_by x ≡ [] → IsAccounted capacity (book v q hand [] []) (book w q hand [] [])
+    nothing_step v w q hand s x a n d = entered_step s x v w q hand [] [] a n d
+
+    -- no call was entered
+    pub spent_step : (v w : MgrView) (q : View Move) (hand : List EventName) (s : ℕ) → SpentAt s v w → IsAccounted capacity (book v q hand [] []) (book w q hand [] [])
+    spent_step v w q hand s a = record {
+      balanced = λ h. let i = law.spent s v w a (λ y. weigh h (named_by y)) in let j = law.spent s v w a (λ y. weigh h (dispatched_by y)) in omega arith;
+      takes = λ h. let j = law.spent s v w a (λ y. weigh h (dispatched_by y)) in omega arith;
+      full = inr (record { hand = left_same hand; others = λ h. let j = law.spent s v w a (λ y. weigh h (dispatched_by y)) in omega arith });
+      queue = grown_same q;
+    }
+
+    -- a dispatch, and what became of the event that it named
+    pub ran_deal_step : (v w : MgrView) (q r : View Move) (xs ys : List EventName) (s : ℕ) (e : EventName) (rs : List FiredKey) (n : Option EventName) → EnteredAt s (Entries.Dispatch e (Dispatches.Ran rs n)) v w → IsPutOrKeptAny capacity n q xs r ys
+        → IsAccounted capacity (book v q xs [] (e ∷ [])) (book w r ys [] [])
+    ran_deal_step v w q r xs ys s e rs n a d = accounted_then capacity (book v q xs [] (e ∷ [])) (book w q xs (option_to_list n) []) (book w r ys [] []) (ran_step v w q xs s e rs n a) (deal_one_step capacity w q r xs ys n d)
+
+    -- a report, and what became of the event that it named
+    pub noted_deal_step : (v w : MgrView) (q r : View Move) (xs ys : List EventName) (s : ℕ) (o : Opening) (ds : Dirs) (n : Option EventName) → EnteredAt s (Entries.Report o ds (Reports.Noted n)) v w → IsPutOrKeptAny capacity n q xs r ys
+        → IsAccounted capacity (book v q xs [] []) (book w r ys [] [])
+    noted_deal_step v w q r xs ys s o ds n a d = accounted_then capacity (book v q xs [] []) (book w q xs (option_to_list n) []) (book w r ys [] []) (noted_step v w q xs s o ds n a) (deal_one_step capacity w q r xs ys n d)
+
+  -- a dispatch was refused, and the event is the last in the hand
+  pub refused_balanced : (v w : MgrView) (q : View Move) (hand : List EventName) (s : ℕ) (e : EventName) → EnteredAt s (Entries.Dispatch e Dispatches.Spent) v w ⊎ SpentAt s v w → IsBalanced (book v q hand [] (e ∷ [])) (book w q (hand ++ e ∷ []) [] [])
+  refused_balanced v w q hand s e c h = let a = weigh-append h hand (e ∷ []) in let x : Entry = Entries.Dispatch e Dispatches.Spent in ⊎_elim
+      (λ (t : EnteredAt s x v w). let i = law.entered s x v w t (λ y. weigh h (named_by y)) in let j = law.entered s x v w t (λ y. weigh h (dispatched_by y)) in omega arith)
+      (λ (t : SpentAt s v w). let i = law.spent s v w t (λ y. weigh h (named_by y)) in let j = law.spent s v w t (λ y. weigh h (dispatched_by y)) in omega arith)
+      c

@@ -17,7 +17,7 @@ use crate::hand::HAND;
 use crate::outcome::Halt;
 use crate::pass::DispPass;
 use crate::runner::{AfterRun, EventPair, Runner};
-use event_mgr::EventManager;
+use event_mgr::{EventManager, calls_weigh};
 use ready_queue::ReadyQueue;
 use reg_keys::Event;
 use std::sync::Wait;
@@ -108,6 +108,8 @@ pub(crate) fn dispatch<T: Load, X: Runner<T>, R: Wait>(
     ensures few { IfOk result (λ n. n ≤ 4) }
     ensures halted { IfErr result (λ halt. HasHalted X.meaning [] (event ∷ []) [] passes.old runner.old halt passes.new runner.new) }
 {
+    // A law of the manager's calls, for the proof: it does nothing when run.
+    calls_weigh::<T>();
     match mgr.dispatch(rt, &mut passes.mgr, event) {
         DispatchReply::Ran(list, next) => {
             let fired = list.len() as u64;

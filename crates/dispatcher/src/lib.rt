@@ -6,6 +6,7 @@
 //! dispatched or in the hand, and each key that fired was run once, in the order of its stripe, under its own
 //! opening and with the marks and the direction that its stripe told.
 //!
+//! To see it at work read the program `event_example`: a job that registers, runs and registers again.
 //! `event_tests` has a runner that keeps an account.
 #![tactic(auto)]
 

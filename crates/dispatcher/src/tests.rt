@@ -1,3 +1,4 @@
 //! Turns on one thread.
+mod plain;
 mod planned;
 mod turns;

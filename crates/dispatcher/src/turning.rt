@@ -12,7 +12,7 @@ use crate::hand::{HAND, Hand};
 use crate::outcome::{Halt, ReportOut, TurnTally, Turned};
 use crate::pass::DispPass;
 use crate::runner::Runner;
-use event_mgr::EventManager;
+use event_mgr::{EventManager, calls_weigh};
 use poller::{PollOut, Poller, REPORTS, Reports};
 use ready_queue::{PutOut, ReadyQueue, TakeOut};
 use reg_keys::{Dirs, Event, Opening};
@@ -230,6 +230,8 @@ fn report_one<T: Load, X: Runner<T>, R: Wait>(
 {
     // Lets the proof speak of the runner.
     let _runner = runner;
+    // A law of the manager's calls, for the proof: it does nothing when run.
+    calls_weigh::<T>();
     match mgr.report(rt, &mut passes.mgr, opening, dirs) {
         ReportReply::Noted(event) => {
             put_or_keep_any(rt, queue, &mut passes.queue, &mut passes.hand, event);

@@ -4,9 +4,11 @@ ghost use Rattle.reg_keys.specs.declared.opening.Opening.{Opening};
 ghost use Rattle.event_mgr.specs.Manager.{IsOfMgr, mgr_view};
 ghost use Rattle.dispatcher.specs.Firings.{Jobs};
 ghost use Rattle.dispatcher.specs.Runs.{HasMadeCalls};
-ghost use Rattle.event_tests.specs.Accounting.{Owes, tag_of};
+ghost use Rattle.event_tests.specs.Accounting.{Accounts, Owes, finishes_in, tag_of};
 ghost use Rattle.event_tests.specs.Serving.{IsTakenUp, events_of_again};
 
+use crate::book::Book;
+use crate::job::Job;
 use dispatcher::calls_of_runs;
 use event_mgr::{CloseOut, EventManager, MgrPass, calls_weigh};
 use reg_keys::{Dir, Event, Opening};
@@ -68,4 +70,23 @@ pub(crate) fn close<T: Load, R: Wait>(
     calls_of_runs::<T>();
     calls_weigh::<T>();
     let _closed: CloseOut<T> = mgr.close_fd(rt, pass, opening);
+}
+
+/// Closes the opening of a connection, which is finished from the job of this number.
+pub(crate) fn finish<R: Wait>(
+    rt: &R,
+    mgr: &EventManager<Job>,
+    pass: &mut MgrPass<Job>,
+    book: &mut Book,
+    opening: Opening,
+    number: u64,
+    read: u64,
+)
+    requires { IsOfMgr mgr.now pass.old }
+    ensures own { IsOfMgr mgr.now pass.new }
+    ensures made { HasMadeCalls (mgr_view pass.old) [] (mgr_view pass.new) }
+    ensures finished { (jobs : Jobs) → Owes opening number (finishes_in book.old.finished.items) (mgr_view pass.old) jobs → Accounts (finishes_in book.new.finished.items) (mgr_view pass.new) jobs }
+{
+    close(rt, mgr, pass, opening);
+    book.finish(opening, number, read);
 }

@@ -1,4 +1,5 @@
 //! What a connection registers.
+ghost use Rattle.std.specs.Prelude.{◌<◌, IfSome};
 ghost use Rattle.event_tests.specs.Accounting.{tag_of};
 
 use outside::{Link, ReadOut};
@@ -27,27 +28,22 @@ impl Load for Job {
     ghost tag = { λ job. tag_of job.opening job.number };
 }
 
-/// What reading came to.
-#[derive(Drop)]
-pub enum Drained {
-    /// The link has no more for now, and goes on.
-    NotYet(MemLink),
-    /// The input is over.
-    Over,
-}
-
-/// Reads what is there, and adds to the bytes that were read.
-pub fn drain(link: Option<MemLink>, read: &mut u64) -> Drained {
-    let Some(mut link) = link else {
-        return Drained::Over;
-    };
+/// Reads what is there, and adds to the bytes that were read. It answers the link where the input goes on and
+/// the job of this number isn't the last.
+pub fn drain(link: Option<MemLink>, number: u64, read: &mut u64) -> Option<MemLink>
+    ensures { IfSome result (λ _. number < LAST) }
+{
+    if number >= LAST {
+        return None;
+    }
+    let mut link = link?;
     let mut room = [0u8; 4];
     for _ in 0..u64::MAX {
         match link.read(&mut room) {
             ReadOut::Got(n) => *read = read.saturating_add(n as u64),
-            ReadOut::NotYet => return Drained::NotYet(link),
-            ReadOut::End | ReadOut::Failed => return Drained::Over,
+            ReadOut::NotYet => return Some(link),
+            ReadOut::End | ReadOut::Failed => return None,
         }
     }
-    Drained::Over
+    None
 }

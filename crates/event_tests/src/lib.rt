@@ -17,7 +17,7 @@ mod runner;
 mod turns;
 
 pub use book::{Book, Finish};
-pub use job::{Drained, Job, LAST, drain};
+pub use job::{Job, LAST, drain};
 pub use runner::ServerRunner;
 pub use turns::{Kit, Row, new_row, serve_on, turn_row};
 

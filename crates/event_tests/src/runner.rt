@@ -6,8 +6,8 @@ ghost use Rattle.dispatcher.specs.declared.runner.AfterRun.TheVariants.{Events};
 ghost use Rattle.dispatcher.specs.Runs.{RunMade, GivesNoEvents, code_of};
 
 use crate::book::Book;
-use crate::calls::{Again, close, register_again};
-use crate::job::{Drained, Job, LAST, drain};
+use crate::calls::{Again, finish, register_again};
+use crate::job::{Job, drain};
 use dispatcher::{AfterRun, EventPair, Runner, calls_of_runs};
 use event_mgr::{EventManager, MgrPass};
 use poller::{MemPoller, Poller};
@@ -91,28 +91,24 @@ impl<'a> Runner<Job> for ServerRunner<'a> {
             mut read,
         } = job;
         self.book.note(fired.key.number, before < mark);
-        if number < LAST {
-            if let Drained::NotYet(link) = drain(link, &mut read) {
-                let next = Job {
-                    opening,
-                    number: number + 1,
-                    mark,
-                    link: Some(link),
-                    read,
-                };
-                match register_again(rt, mgr, pass, opening, number, fired.dir, mark, next) {
-                    Again::Waits(event) => return events(event),
-                    Again::Refused => {
-                        close(rt, mgr, pass, opening);
-                        self.book.finish(opening, number, read);
-                        return events(None);
-                    }
-                }
+        let Some(link) = drain(link, number, &mut read) else {
+            finish(rt, mgr, pass, self.book, opening, number, read);
+            return events(None);
+        };
+        let next = Job {
+            opening,
+            number: number + 1,
+            mark,
+            link: Some(link),
+            read,
+        };
+        match register_again(rt, mgr, pass, opening, number, fired.dir, mark, next) {
+            Again::Waits(event) => events(event),
+            Again::Refused => {
+                finish(rt, mgr, pass, self.book, opening, number, read);
+                events(None)
             }
         }
-        close(rt, mgr, pass, opening);
-        self.book.finish(opening, number, read);
-        events(None)
     }
 
     fn shut(&mut self, _key: Key, job: Job)

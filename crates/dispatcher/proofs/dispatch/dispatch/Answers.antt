@@ -30,7 +30,7 @@ pub returns-in-None-clause-went : goal.returns-in-None-clause-went
 returns-in-None-clause-went g c = record {
   events = let p = c.args.passes.now in let cap = capacity_of c.args.queue.now in let e = c.args.event in let m = mgr_view c.dispatch.new.pass in let rs = map (fired_key g.T.Load.tag) c.in-Ran.list in
       accounted_then cap (book_with [] (e ∷ []) p) (book m (view_of c.put_or_keep_any.new.pass) c.put_or_keep_any.new.hand [] []) (book_of c.run_all.new.passes)
-      (ran_deal_step cap (mgr_view p.mgr) m (view_of p.queue) (view_of c.put_or_keep_any.new.pass) p.hand c.put_or_keep_any.new.hand (stripe_of e.opening.fd) e rs c.in-Ran.next (ran_entered g.T.Load.tag e (mgr_view p.mgr) c.in-Ran.list c.in-Ran.next m c.in-Ran.ensures.step) c.put_or_keep_any.ensures.put_or_kept)
+      (ran_deal_step c.calls_weigh.ensures cap (mgr_view p.mgr) m (view_of p.queue) (view_of c.put_or_keep_any.new.pass) p.hand c.put_or_keep_any.new.hand (stripe_of e.opening.fd) e rs c.in-Ran.next (ran_entered g.T.Load.tag e (mgr_view p.mgr) c.in-Ran.list c.in-Ran.next m c.in-Ran.ensures.step) c.put_or_keep_any.ensures.put_or_kept)
       c.run_all.ensures.events;
   ran = let p = c.args.passes.now in let e = c.args.event in let x = c.args.runner.now in let m = mgr_view c.dispatch.new.pass in let rs = map (fired_key g.T.Load.tag) c.in-Ran.list in
       let t = run_then g.X.Runner.meaning g.met.X.Runner.laws.keeps_on 0 (length (firings e.opening rs)) (work_with [] [] p) x (work m (firings e.opening rs) []) x (work_with [] [] c.run_all.new.passes) c.run_all.new.runner
@@ -42,7 +42,7 @@ pub returns-in-Some-clause-halted : goal.returns-in-Some-clause-halted
 returns-in-Some-clause-halted g c = let p = c.args.passes.now in let cap = capacity_of c.args.queue.now in let e = c.args.event in let x = c.args.runner.now in let m = mgr_view c.dispatch.new.pass in let rs = map (fired_key g.T.Load.tag) c.in-Ran.list in
     let entered = ran_entered g.T.Load.tag e (mgr_view p.mgr) c.in-Ran.list c.in-Ran.next m c.in-Ran.ensures.step in
     let a = accounted_then cap (book_with [] (e ∷ []) p) (book m (view_of c.put_or_keep_any.new.pass) c.put_or_keep_any.new.hand [] []) (book_of c.run_all.new.passes)
-    (ran_deal_step cap (mgr_view p.mgr) m (view_of p.queue) (view_of c.put_or_keep_any.new.pass) p.hand c.put_or_keep_any.new.hand (stripe_of e.opening.fd) e rs c.in-Ran.next entered c.put_or_keep_any.ensures.put_or_kept)
+    (ran_deal_step c.calls_weigh.ensures cap (mgr_view p.mgr) m (view_of p.queue) (view_of c.put_or_keep_any.new.pass) p.hand c.put_or_keep_any.new.hand (stripe_of e.opening.fd) e rs c.in-Ran.next entered c.put_or_keep_any.ensures.put_or_kept)
     c.run_all.ensures.events in
     let r = c.in-Some.ensures.ran e.opening in record {
       balanced = a.balanced;
@@ -64,7 +64,7 @@ returns-in-Stale-clause-leaves g c = record {
 pub returns-in-Stale-clause-went : goal.returns-in-Stale-clause-went
 returns-in-Stale-clause-went g c = record {
   events = let p = c.args.passes.now in let e = c.args.event in let m = mgr_view c.dispatch.new.pass in
-      stale_step (capacity_of c.args.queue.now) (mgr_view p.mgr) m (view_of p.queue) p.hand (stripe_of e.opening.fd) e (stale_entered g.T.Load.tag e (mgr_view p.mgr) m c.in-Stale.ensures.step);
+      stale_step c.calls_weigh.ensures (capacity_of c.args.queue.now) (mgr_view p.mgr) m (view_of p.queue) p.hand (stripe_of e.opening.fd) e (stale_entered g.T.Load.tag e (mgr_view p.mgr) m c.in-Stale.ensures.step);
   ran = let p = c.args.passes.now in let e = c.args.event in let m = mgr_view c.dispatch.new.pass in
       idle_step g.X.Runner.meaning g.met.X.Runner.laws.keeps_same (mgr_view p.mgr) m c.args.runner.now [] (stripe_of e.opening.fd) (Entries.Dispatch e Dispatches.Stale) (stale_entered g.T.Load.tag e (mgr_view p.mgr) m c.in-Stale.ensures.step) refl refl;
 }
@@ -80,7 +80,7 @@ returns-in-Spent-clause-leaves g c = record {
 pub returns-in-Spent-clause-halted : goal.returns-in-Spent-clause-halted
 returns-in-Spent-clause-halted g c = let p = c.args.passes.now in let e = c.args.event in let v = mgr_view p.mgr in let m = mgr_view c.dispatch.new.pass in let s = stripe_of e.opening.fd in
     let d = dispatch_spent g.T.Load.tag e c.in-Spent.back v m c.in-Spent.ensures.step in let hand = c.push.ensures ∙ ap (λ (b : EventName). p.hand ++ b ∷ []) d.0 in record {
-      balanced = subst (λ l. IsBalanced (book_with [] (e ∷ []) p) (book m (view_of p.queue) l [] [])) (sym hand) (refused_balanced v m (view_of p.queue) p.hand s e d.1);
+      balanced = subst (λ l. IsBalanced (book_with [] (e ∷ []) p) (book m (view_of p.queue) l [] [])) (sym hand) (refused_balanced c.calls_weigh.ensures v m (view_of p.queue) p.hand s e d.1);
       queue = grown_same (view_of p.queue);
       back = [];
       work = (refused_work g.X.Runner.meaning g.met.X.Runner.laws.keeps_same v m c.args.runner.now [] s (Entries.Dispatch e Dispatches.Spent) d.1 refl refl).0;

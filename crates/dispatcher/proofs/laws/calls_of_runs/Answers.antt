@@ -5,9 +5,9 @@ pub returns : goal.returns
 returns g c = record {
   none = calls_none;
   several = calls_then;
-  opened = calls_opened;
-  registered = calls_registered g.T.Load.tag;
-  withdrawn = calls_withdrawn g.T.Load.tag;
-  asked = calls_asked;
-  closed = calls_closed g.T.Load.tag;
+  opened = calls_opened c.calls_weigh.ensures;
+  registered = calls_registered c.calls_weigh.ensures;
+  withdrawn = calls_withdrawn c.calls_weigh.ensures;
+  asked = calls_asked c.calls_weigh.ensures;
+  closed = calls_closed c.calls_weigh.ensures;
 }

@@ -3,7 +3,7 @@ use Rattle.reg_keys.specs.declared.opening.Opening.{Opening}
 use Rattle.event_mgr.specs.Manager.{mgr_view}
 use Rattle.dispatcher.specs.Runs.{RunMade}
 use Rattle.event_tests.specs.Accounting.{Owes, finishes_in, tag_of}
-use Rattle.event_tests.proofs.Owing.{owes_from, finished_on}
+use Rattle.event_tests.proofs.Owing.{owes_from}
 use Rattle.event_tests.proofs.runner.ServerRunnerRunnerJob.run.Goals as goal
 
 pub returns-in_default-clause-made : goal.returns-in_default-clause-made
@@ -27,22 +27,20 @@ returns-in-Refused-clause-fits g c o rest acc =
     let noted : finishes_in c.args.self.now.book.now.finished.items ≡ f = ap (λ b. finishes_in b.items) (sym c.note.ensures) in
     let owes = subst (λ (h : Opening → ℕ → ℕ). Owes job.opening job.number h (mgr_view c.args.pass.now) rest) noted
     (owes_from (λ job. tag_of job.opening job.number) o c.args.fired.now job job.opening job.number (finishes_in c.args.self.now.book.now.finished.items) (mgr_view c.args.pass.now) rest c.in-Some.ensures.value refl acc) in
-    finished_on job.opening job.number f (finishes_in c.finish.new.self.finished.items) (mgr_view c.close.new.pass) rest c.finish.ensures
-    (c.close.ensures.owes job.opening job.number f rest (c.in-Refused.ensures.taken f rest owes))
+    c.finish-in-Refused.ensures.finished rest (c.in-Refused.ensures.taken f rest owes)
 
 pub returns-in-Refused-clause-made : goal.returns-in-Refused-clause-made
 returns-in-Refused-clause-made g c =
     let v = mgr_view c.args.pass.now in
-    let w = mgr_view c.close.new.pass in
-    let both = c.calls_of_runs.ensures.several v [] (mgr_view c.register_again.new.pass) [] w c.in-Refused.ensures.made c.close.ensures.made in
+    let w = mgr_view c.finish-in-Refused.new.pass in
+    let both = c.calls_of_runs.ensures.several v [] (mgr_view c.register_again.new.pass) [] w c.in-Refused.ensures.made c.finish-in-Refused.ensures.made in
     subst (λ r. RunMade v r w) (sym c.events-in-Refused.ensures) both
 
-pub returns-clause-fits : goal.returns-clause-fits
-returns-clause-fits g c o rest acc =
+pub returns-in_default-drain-clause-fits : goal.returns-in_default-drain-clause-fits
+returns-in_default-drain-clause-fits g c o rest acc =
     let f = finishes_in c.note.new.self.finished.items in
     let job = c.in-Some.job in
     let noted : finishes_in c.args.self.now.book.now.finished.items ≡ f = ap (λ b. finishes_in b.items) (sym c.note.ensures) in
     let owes = subst (λ (h : Opening → ℕ → ℕ). Owes job.opening job.number h (mgr_view c.args.pass.now) rest) noted
     (owes_from (λ job. tag_of job.opening job.number) o c.args.fired.now job job.opening job.number (finishes_in c.args.self.now.book.now.finished.items) (mgr_view c.args.pass.now) rest c.in-Some.ensures.value refl acc) in
-    finished_on job.opening job.number f (finishes_in c.finish-2.new.self.finished.items) (mgr_view c.close-2.new.pass) rest c.finish-2.ensures
-    (c.close-2.ensures.owes job.opening job.number f rest owes)
+    c.finish.ensures.finished rest owes

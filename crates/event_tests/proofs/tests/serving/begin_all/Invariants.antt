@@ -1,0 +1,6 @@
+use Rattle.ready_queue.specs.Calls.{IsOf}
+use Rattle.event_mgr.specs.Manager.{IsOfMgr}
+use Rattle.event_tests.proofs.tests.serving.begin_all.Given as goal
+
+abbrev pub invariant-loop : goal.invariant-loop
+invariant-loop g l = IsOfMgr l.mgr l.pass × IsOf l.queue l.place
