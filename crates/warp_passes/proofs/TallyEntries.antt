@@ -1,10 +1,10 @@
 -- What a step on the tally's cell says of what its pass did.
 use Rattle.std.proofs.Common.{◌≡◌, ℕ, Bool, true, false, List, [], ◌∷◌, ◌++◌, map, reverse, refl, sym, ap, ◌∙◌, subst, ◌⊎◌, inl, inr}
-use Rattle.std.proofs.lemmas.List.{map-append, reverse-append}
+use Rattle.std.proofs.lemmas.List.{append-nil, map-append, reverse-append}
 use Rattle.turn_cell.specs.declared.view.View.{View}
-use Rattle.turn_cell.specs.History.{Log, entries_in}
+use Rattle.turn_cell.specs.History.{Log}
 use Rattle.turn_cell.specs.Calls.{Entered, WasSpent}
-use Rattle.turn_cell.specs.View.{own_entries, seat_of}
+use Rattle.turn_cell.specs.View.{seat_of}
 use Rattle.warp_tally.specs.declared.calls.TallyCall.{TallyCall}
 use Rattle.warp_tally.specs.declared.calls.TallyCall.TheVariants.{Accept, TurnAway, Finish, Stop, Look}
 use Rattle.warp_tally.specs.declared.calls.Counted.TheVariants.{Yes, No, NoMemory}
@@ -13,6 +13,8 @@ use Rattle.warp_tally.specs.declared.calls.TallyEntry.{TallyEntry}
 use Rattle.warp_tally.specs.declared.tally.Tally.{Tally}
 use Rattle.warp_tally.specs.Tallies.{tally_past, counts, yes_if, yes_with, is_open, is_unstopped, totals_of, IsTallyPast}
 use Rattle.warp_tally.specs.TallyStands.{TallyStands}
+use Rattle.warp_passes.specs.Own.{entries_of}
+use Rattle.warp_passes.proofs.Added.{entered_adds, spent_adds}
 use Rattle.warp_passes.specs.TallyCalls.{MayAnswer, TallyEntered, TallySpent}
 
 -- the relation of a tally to a history of its cell
@@ -45,12 +47,12 @@ may_answer room past Look = refl
 
 pub tally_entered : (e : TallyEntry) (v w : View TallyEntry) → Entered stands no_name e v w → TallyEntered e v w
 tally_entered e v w s =
+    let adds = entered_adds stands no_name e v w s in
     let right : IsTallyPast (tally_past w.seen) = s.is_part.0.right in
     let latest : tally_past w.seen ≡ e ∷ (tally_past s.between ++ tally_past v.seen) = ap tally_past s.seen
-    ∙ (past_on (v.seen ++ s.between) ((seat_of v, e) ∷ []) ∙ ap (λ l. e ∷ l) (past_on v.seen s.between)) in
+        ∙ (past_on (v.seen ++ s.between) ((seat_of v, e) ∷ []) ∙ ap (λ l. e ∷ l) (past_on v.seen s.between)) in
     let told = (subst IsTallyPast latest right).0 in record {
-      own = ap (map (λ (x : ℕ × TallyEntry). x.1)) s.own
-          ∙ map-append (λ (x : ℕ × TallyEntry). x.1) (own_entries v) ((seat_of v, e) ∷ []);
+      own = adds.own;
       counted = subst (MayAnswer e.call) (sym (ap (λ (r : TallyReply). r.counted) told.1))
           (may_answer told.0 (tally_past s.between ++ tally_past v.seen) e.call);
       between = tally_past s.between;
@@ -58,15 +60,14 @@ tally_entered e v w s =
       right = right;
       classes = s.classes;
       met_spent = s.met_spent;
+      grown = adds.grown;
     }
 
 pub tally_spent : (v w : View TallyEntry) → WasSpent {E = TallyEntry} stands no_name v w → TallySpent v w
-tally_spent v w s = record {
-  own = ap (λ (l : List (ℕ × TallyEntry)). map (λ (x : ℕ × TallyEntry). x.1) l) same;
+tally_spent v w s = let adds = spent_adds stands no_name v w s in record {
+  own = adds.own ∙ append-nil (entries_of v);
   seen = s.unmoved.seen;
   classes = s.unmoved.classes;
   met_spent = s.met_spent;
+  grown = adds.grown;
 }
-  where
-    same : own_entries w ≡ own_entries v
-    same = λ k. entries_in (s.unmoved.classes k) (s.unmoved.seen k)

@@ -12,6 +12,7 @@ use Rattle.warp_tally.specs.declared.calls.TallyReply.{TallyReply}
 use Rattle.warp_tally.specs.declared.calls.TallyEntry.{TallyEntry}
 use Rattle.warp_tally.specs.declared.tally.Tally.{Tally}
 use Rattle.warp_tally.specs.Tallies.{tally_past, IsTallyPast}
+use Rattle.dispatcher.specs.Stripes.{HasGrown}
 use Rattle.warp_passes.specs.Own.{entries_of}
 use Rattle.warp_passes.specs.declared.tally.TallyOut.{TallyOut}
 use Rattle.warp_passes.specs.declared.tally.TallyOut.TheVariants.{Done, Spent}
@@ -39,6 +40,7 @@ pub record TallyEntered (e : TallyEntry) (v w : View TallyEntry) : Type 0 where
   pub right : IsTallyPast (tally_past w.seen)
   pub classes : w.classes ≡ v.classes
   pub met_spent : w.met_spent ≡ v.met_spent
+  pub grown : HasGrown v w
 
 -- No call was made, since the cell has 2 ^ 62 entries: the pass did what it had done, and has seen what it had seen
 pub record TallySpent (v w : View TallyEntry) : Type 0 where
@@ -46,6 +48,7 @@ pub record TallySpent (v w : View TallyEntry) : Type 0 where
   pub seen : w.seen ≡ v.seen
   pub classes : w.classes ≡ v.classes
   pub met_spent : w.met_spent ≡ true
+  pub grown : HasGrown v w
 
 -- what an answer to a call says
 abbrev pub HasCalled : TallyCall → View TallyEntry → TallyOut → View TallyEntry → Type 0

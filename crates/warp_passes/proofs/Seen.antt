@@ -1,0 +1,23 @@
+-- What passes have seen, where they are split or told of one another.
+use Rattle.std.proofs.Common.{◌≡◌, ℕ, List, length, refl, sym, ap, ◌∙◌, subst}
+use Rattle.std.specs.Prelude.{nat_lt}
+use Rattle.std.proofs.lemmas.Bool.{cond_both}
+use Rattle.turn_cell.specs.declared.view.View.{View}
+use Rattle.turn_cell.specs.History.{Log, longer}
+use Rattle.turn_cell.specs.Calls.{IsSplit}
+use Rattle.level.specs.Leveling.{HasShared}
+
+module _ {E : Type 0} (Fact : Log E → Type 0) where
+  pub split_left : (v w o : View E) → IsSplit v w o → Fact v.seen → Fact w.seen
+  split_left v w o s f = subst Fact (sym (ap (λ (x : View E). x.seen) s.left)) f
+
+  pub split_right : (v w o : View E) → IsSplit v w o → Fact v.seen → Fact o.seen
+  split_right v w o s f = subst Fact (sym (ap (λ (x : View E). x.seen) s.right)) f
+
+  pub shared_from : (v w v' w' : View E) → HasShared v w v' w' → Fact v.seen → Fact v'.seen
+  shared_from v w v' w' h f = split_left v v' h.between h.split f
+
+  pub shared_to : (v w v' w' : View E) → HasShared v w v' w' → Fact v.seen → Fact w.seen → Fact w'.seen
+  shared_to v w v' w' h f g = let between = split_right v v' h.between h.split f in
+      subst Fact (sym (ap (λ (x : View E). x.seen) h.joined.both))
+      (cond_both (nat_lt (length w.seen) (length h.between.seen)) h.between.seen w.seen Fact (λ _. between) (λ _. g))

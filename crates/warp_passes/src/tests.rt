@@ -1,0 +1,167 @@
+//! Passes of one `Shared`: calls on the tally and on the cache, and levelling in between.
+ghost use Rattle.std.specs.Prelude.{◌≡◌, ◌<◌, [], All, length};
+ghost use Rattle.level.specs.Meanings.{HoldAllSeats};
+ghost use Rattle.outside.specs.MemFolder.{folder_in};
+ghost use Rattle.warp_passes.specs.Passes.{AreOf, pass_view, rest_of};
+ghost use Rattle.warp_passes.specs.Cells.{serve_meaning};
+ghost use Rattle.warp_passes.specs.Levels.{HasPassGrown};
+
+use crate::{
+    ReapOut, ServePass, Shared, TallyOut, accept, acquire, bring_rows_level, finish,
+    grown_passes_hold_the_seats, look, reap_once,
+    release, shared_among, stop, turn_away,
+};
+use fd_cache::{Acquired, Basket, Lease, ReleaseOut};
+use outside::{Files, MemFile, MemFiles, Place};
+use reg_keys::Opening;
+use std::alloc::{AllocError, Global};
+use std::marker::Brand;
+use std::process::Abort;
+use std::sync::Wait;
+use std::test::Fail;
+use stripe_table::Load;
+use warp_tally::{Counted, TallyCall};
+
+/// A job that is never registered here.
+#[derive(Drop)]
+struct Job {}
+
+impl Load for Job {
+    ghost tag = { λ _. [] };
+}
+
+/// Makes a call on the tally with a pass.
+fn call_with<R: Wait, F: Files>(
+    rt: &R,
+    shared: &Shared<Job, F>,
+    pass: &mut ServePass<Job, F>,
+    call: TallyCall,
+) -> TallyOut
+    requires { AreOf shared.now pass.old }
+    ensures own { AreOf shared.now pass.new }
+    ensures grown { HasPassGrown (pass_view pass.old) (pass_view pass.new) }
+{
+    match call {
+        TallyCall::Accept(o) => accept(rt, &shared.tally, &mut pass.tally, o),
+        TallyCall::TurnAway => turn_away(rt, &shared.tally, &mut pass.tally),
+        TallyCall::Finish(o) => finish(rt, &shared.tally, &mut pass.tally, o),
+        TallyCall::Stop(code) => stop(rt, &shared.tally, &mut pass.tally, code),
+        TallyCall::Look => look(rt, &shared.tally, &mut pass.tally),
+    }
+}
+
+/// The same with the pass at a place.
+fn call_at<R: Wait, F: Files>(
+    rt: &R,
+    shared: &Shared<Job, F>,
+    passes: &mut Vec<ServePass<Job, F>>,
+    place: usize,
+    call: TallyCall,
+) -> TallyOut
+    requires place { place < length passes.old.items }
+    requires own { All (λ p. AreOf shared.now p) passes.old.items }
+    requires seats { HoldAllSeats serve_meaning passes.old.items }
+    ensures count { length passes.new.items ≡ length passes.old.items }
+    ensures own { All (λ p. AreOf shared.now p) passes.new.items }
+    ensures seats { HoldAllSeats serve_meaning passes.new.items }
+{
+    // A law of seats, for the proof: it does nothing when run.
+    grown_passes_hold_the_seats::<ServePass<Job, F>, Shared<Job, F>, Lease<F>>();
+    let pass = &mut passes[place];
+    call_with(rt, shared, pass, call)
+}
+
+/// What a call is answered, as whether it counted, what was accepted and finished, and the first stop.
+fn shown(out: TallyOut) -> Option<(Counted, u64, u64, Option<u8>)> {
+    match out {
+        TallyOut::Done(reply) => Some((reply.counted, reply.accepted, reply.finished, reply.stop)),
+        TallyOut::Spent => None,
+    }
+}
+
+/// Two dispatchers count on one tally, and their passes are brought level in between.
+fn counts_on_one_tally<R: Wait + Abort, K: Place>(rt: &R, alloc: Global) -> Result<(), AllocError> {
+    let (shared, mut passes) = shared_among::<Job, MemFiles<K>>(alloc, 2)?;
+    let one = Opening { number: 32, fd: 0 };
+    let other = Opening { number: 33, fd: 1 };
+
+    let out = call_at(rt, &shared, &mut passes, 0, TallyCall::Accept(one));
+    assert!(rt; shown(out) == Some((Counted::Yes, 1, 0, None)));
+    let out = call_at(rt, &shared, &mut passes, 1, TallyCall::Accept(other));
+    assert!(rt; shown(out) == Some((Counted::Yes, 2, 0, None)));
+    let out = call_at(rt, &shared, &mut passes, 0, TallyCall::Finish(other));
+    assert!(rt; shown(out) == Some((Counted::Yes, 2, 1, None)));
+    let out = call_at(rt, &shared, &mut passes, 1, TallyCall::Finish(other));
+    assert!(rt; shown(out) == Some((Counted::No, 2, 1, None)));
+
+    bring_rows_level(&shared, passes.as_mut_slice());
+    assert_eq!(rt; passes.len(), 2);
+    let out = call_at(rt, &shared, &mut passes, 1, TallyCall::Finish(one));
+    assert!(rt; shown(out) == Some((Counted::Yes, 2, 2, None)));
+    let out = call_at(rt, &shared, &mut passes, 0, TallyCall::TurnAway);
+    assert!(rt; shown(out) == Some((Counted::Yes, 3, 2, None)));
+    let out = call_at(rt, &shared, &mut passes, 1, TallyCall::Stop(13));
+    assert!(rt; shown(out) == Some((Counted::Yes, 3, 2, Some(13))));
+    let out = call_at(rt, &shared, &mut passes, 0, TallyCall::Look);
+    assert!(rt; shown(out) == Some((Counted::No, 3, 2, Some(13))));
+    Ok(())
+}
+
+/// One dispatcher leases a file, and another reaps it once it is back.
+fn reaps_what_came_back<R: Wait + Abort, K: Place>(
+    rt: &R,
+    alloc: Global,
+    contents: Vec<MemFile>,
+) -> Result<(), AllocError>
+    requires { folder_in contents.items ≡ K.folder }
+{
+    let mut files = MemFiles::<K>::new(alloc, contents, true, Vec::new(alloc));
+    let (shared, mut pass) = Shared::<Job, MemFiles<K>>::new(alloc)?;
+    let mut other = shared.split(alloc, &mut pass)?;
+    let basket = Basket::new(alloc)?;
+
+    let out = acquire(alloc, rt, &shared.cache, &mut pass.cache, "a.txt", &mut files);
+    let Acquired::Leased(lease) = out else {
+        panic!(rt; "the file is there");
+    };
+    assert_eq!(rt; lease.size, 5);
+    let (out, basket) = reap_once(rt, &shared.cache, &mut other.cache, basket);
+    assert_eq!(rt; out, ReapOut::Reaped);
+    assert_eq!(rt; release(rt, &shared.cache, &mut pass.cache, lease), ReleaseOut::Released);
+
+    // It is kept, so that nothing is looked for.
+    let out = acquire(alloc, rt, &shared.cache, &mut other.cache, "a.txt", &mut files);
+    let Acquired::Leased(lease) = out else {
+        panic!(rt; "the file is open");
+    };
+    assert_eq!(rt; files.finds(), 1);
+    assert_eq!(rt; release(rt, &shared.cache, &mut other.cache, lease), ReleaseOut::Released);
+
+    // Two reaps back to back close it.
+    let (_, basket) = reap_once(rt, &shared.cache, &mut pass.cache, basket);
+    let (out, basket) = reap_once(rt, &shared.cache, &mut pass.cache, basket);
+    assert_eq!(rt; out, ReapOut::Reaped);
+    assert_eq!(rt; basket.len(), 0);
+    let out = acquire(alloc, rt, &shared.cache, &mut pass.cache, "a.txt", &mut files);
+    assert!(rt; matches!(out, Acquired::Leased(_)));
+    assert_eq!(rt; files.finds(), 2);
+    Ok(())
+}
+
+#[test]
+fn dispatchers_count_on_one_tally(rt: HostRuntime) -> Result<(), Fail> {
+    counts_on_one_tally::<HostRuntime, Brand>(&rt, rt.alloc())?;
+    Ok(())
+}
+
+#[test]
+fn two_reaps_close_a_file_that_came_back(rt: HostRuntime) -> Result<(), Fail> {
+    let alloc = rt.alloc();
+    let file = MemFile {
+        path: String::from_str(alloc, "a.txt")?,
+        bytes: b"hello".to_vec(alloc)?,
+        mtime: 7,
+    };
+    reaps_what_came_back::<HostRuntime, Brand>(&rt, alloc, vec![in alloc; file]?)?;
+    Ok(())
+}
