@@ -1,11 +1,10 @@
 -- What a step on a cell adds to what its pass did.
-use Rattle.std.proofs.Common.{◌≡◌, ℕ, List, [], ◌∷◌, ◌++◌, map, refl, sym, ap, ◌∙◌}
+use Rattle.std.proofs.Common.{◌≡◌, ℕ, List, [], ◌∷◌, ◌++◌, map, sym, ap, ◌∙◌}
 use Rattle.std.proofs.lemmas.List.{map-append, append-nil, append_assoc}
 use Rattle.turn_cell.specs.declared.view.View.{View}
 use Rattle.turn_cell.specs.History.{Log, entries_in}
 use Rattle.turn_cell.specs.View.{own_entries, seat_of}
 use Rattle.turn_cell.specs.Calls.{Entered, WasSpent}
-use Rattle.dispatcher.specs.Stripes.{HasGrown}
 use Rattle.dispatcher.proofs.Lists.{begins_one, begins_two}
 use Rattle.dispatcher.proofs.Grown.{grown_as, grown_same, grown_then}
 use Rattle.warp_passes.specs.Own.{entries_of, Adds}

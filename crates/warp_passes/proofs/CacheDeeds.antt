@@ -1,5 +1,5 @@
 -- What the cache's own calls say, as deeds of the pass.
-use Rattle.std.proofs.Common.{◌≡◌, ℕ, Bool, true, false, List, [], ◌∷◌, ◌++◌, refl, sym, ap, ◌∙◌, subst}
+use Rattle.std.proofs.Common.{◌≡◌, ℕ, true, false, List, [], ◌∷◌, refl, sym, ap, ◌∙◌, subst}
 use Rattle.outside.specs.declared.files.Files.{Ghosts}
 use Rattle.outside.specs.FileCauses.{FilesTold}
 use Rattle.turn_cell.specs.declared.view.View.{View}
@@ -17,7 +17,7 @@ use Rattle.fd_cache.specs.History.{IsCacheHistory}
 use Rattle.fd_cache.specs.Represents.{past_of, no_name, stands_for}
 use Rattle.fd_cache.specs.Shared.{EnteredIn, SpentAt, HasShared, HasGivenBack}
 use Rattle.warp_passes.specs.Own.{Adds}
-use Rattle.warp_passes.specs.CacheCalls.{HasCached, DidAcquire, DidRelease, DidReap, acquire_met, release_met, reap_met}
+use Rattle.warp_passes.specs.CacheCalls.{HasCached, DidAcquire, DidRelease, DidReap, acquire_met, release_met}
 use Rattle.warp_passes.specs.declared.cache.ReapOut.TheVariants as Reaps
 use Rattle.warp_passes.proofs.Added.{adds_none, adds_then, entered_adds, spent_adds}
 

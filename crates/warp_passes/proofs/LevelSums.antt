@@ -1,14 +1,12 @@
 -- Sums over what level passes did.
-use Rattle.std.proofs.Common.{◌≡◌, ℕ, zero, suc, ◌+◌, ◌<◌, List, [], ◌∷◌, ◌++◌, map, reverse, length, All, refl, sym, ap, ◌∙◌, subst, arith}
+use Rattle.std.proofs.Common.{◌≡◌, ℕ, List, [], ◌∷◌, map, reverse, All, refl, sym, ap, ◌∙◌, arith}
 use Rattle.std.proofs.lemmas.List.{reverse-append}
 use Rattle.reg_keys.specs.Tests.{total}
 use Rattle.turn_cell.specs.declared.view.View.{View}
 use Rattle.turn_cell.specs.Weights.{weigh}
-use Rattle.turn_cell.specs.History.{Log}
 use Rattle.turn_cell.specs.View.{own_entries}
 use Rattle.turn_cell.proofs.Weights.{weigh-append, weigh_same}
 use Rattle.level.specs.Leveling.{IsLevel}
-use Rattle.level.specs.Meanings.{AreBroughtLevel}
 use Rattle.level.proofs.Lists.{All-head, weigh_map}
 use Rattle.event_mgr.specs.Manager.{IsLawful}
 use Rattle.event_mgr.specs.Level.{AtStripe, AtNumbers}
@@ -18,7 +16,7 @@ use Rattle.warp_tally.specs.declared.calls.TallyEntry.{TallyEntry}
 use Rattle.warp_tally.specs.Tallies.{tally_past}
 use Rattle.warp_passes.specs.Own.{entries_of}
 use Rattle.warp_passes.specs.Passes.{PassView, IsLawfulPass}
-use Rattle.warp_passes.specs.Cells.{AtMgr, AtCache, AtTally, meaning_by}
+use Rattle.warp_passes.specs.Cells.{AtMgr, AtCache, AtTally, CameLevel}
 use Rattle.warp_passes.specs.Levels.{ArePassesLevel, PassesAddUp}
 
 module _ {A : Type 0} where
@@ -37,7 +35,7 @@ module _ {A E : Type 0} (view : A → View E) where
   adds_up f x xs l =
       let g : ℕ × E → ℕ = λ e. f e.1 in
       weigh_same (λ y. weigh f (entries_of (view y))) (λ y. weigh g (own_entries (view y))) (x ∷ xs)
-          (λ y. weigh_map (λ (e : ℕ × E). e.1) f (own_entries (view y)))
+      (λ y. weigh_map (λ (e : ℕ × E). e.1) f (own_entries (view y)))
       ∙ (sym (weigh_map view (λ v. weigh g (own_entries v)) (x ∷ xs))
       ∙ (l.sums g ∙ ap (weigh g) (sym (All-head (λ (v : View E). v.seen ≡ l.log) (view x) (map view xs) l.saw))))
 
@@ -46,8 +44,8 @@ past_weighs : {D : Type 0} (f : D → ℕ) (h : List (ℕ × D)) → weigh f (pa
 past_weighs f h = weigh_reverse f (map (λ e. e.1) h) ∙ weigh_map (λ e. e.1) f h
 
 module _ {A L : Type 0} (known : A → PassView L) where
-  pub rows_level : {O : Type 0} (is_of : O → A → Type 0) (xs ys : List A) → AreBroughtLevel (meaning_by known is_of) xs ys → ArePassesLevel known ys
-  rows_level is_of xs ys b = record {
+  pub rows_level : (xs ys : List A) → CameLevel known xs ys → ArePassesLevel known ys
+  rows_level xs ys b = record {
     mgr = record { stripes = λ s low. (b (AtMgr (AtStripe s low))).level; numbers = (b (AtMgr AtNumbers)).level };
     cache = (b AtCache).level;
     tally = (b AtTally).level;

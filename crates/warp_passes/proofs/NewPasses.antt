@@ -1,5 +1,5 @@
 -- Passes that are made by splitting are new.
-use Rattle.std.proofs.Common.{◌≡◌, ℕ, List, [], ◌∷◌, refl, sym, ap, ◌∙◌, subst}
+use Rattle.std.proofs.Common.{◌≡◌, ℕ, List, [], ◌∷◌, ◌++◌, ap, ◌∙◌}
 use Rattle.turn_cell.specs.declared.view.View.{View}
 use Rattle.turn_cell.specs.View.{first_view}
 use Rattle.turn_cell.specs.Calls.{IsSplit}
@@ -83,3 +83,7 @@ module _ {L : Type 0} where
     hand = s.empty;
     times = s.timeless ∙ ap (λ (x : TimeView). record Times.first_view { seen = x.seen }) new.times;
   }
+
+-- the first item of a list that was empty
+pub one_item : {A : Type 0} (before after : List A) (p : A) → before ≡ [] → after ≡ before ++ p ∷ [] → after ≡ p ∷ []
+one_item before after p none more = more ∙ ap (λ l. l ++ p ∷ []) none

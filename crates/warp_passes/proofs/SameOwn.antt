@@ -1,21 +1,20 @@
 -- What passes did, where their own entries are what they were, or none.
 use Rattle.std.proofs.Common.{◌≡◌, ℕ, zero, suc, ◌<◌, List, [], ◌∷◌, map, length, All, refl, sym, ap, ◌∙◌, subst, arith}
-use Rattle.std.specs.Prelude.{slice_get, Some}
+use Rattle.std.specs.Prelude.{slice_get}
 use Rattle.reg_keys.specs.declared.entry.Entry.{Entry}
 use Rattle.turn_cell.specs.declared.view.View.{View}
 use Rattle.turn_cell.specs.Weights.{weigh}
 use Rattle.turn_cell.specs.History.{Log, entries_in}
 use Rattle.turn_cell.specs.View.{own_entries}
 use Rattle.level.specs.Leveling.{classes_of, IsFresh, HoldsEachOnce}
-use Rattle.level.specs.Meanings.{HoldAllSeats, KeepOwn}
 use Rattle.level.proofs.Lists.{All-head, All-tail, map_map}
 use Rattle.level.proofs.Levels.{once_by}
-use Rattle.event_mgr.specs.Manager.{MgrView, view_by, stripe_view}
+use Rattle.event_mgr.specs.Manager.{view_by}
 use Rattle.event_mgr.specs.Level.{AtStripe, AtNumbers}
 use Rattle.timeout_mgr.specs.Passes as Times
 use Rattle.dispatcher.specs.Stripes.{Each, HasGrown}
 use Rattle.warp_passes.specs.Passes.{PassView, IsLawfulPass}
-use Rattle.warp_passes.specs.Cells.{ServeCell, AtMgr, AtCache, AtTally, entry_at, known_at, meaning_by}
+use Rattle.warp_passes.specs.Cells.{ServeCell, AtMgr, AtCache, AtTally, entry_at, known_at, SeatsAreOnce, OwnIsKept}
 use Rattle.warp_passes.specs.Levels.{IsNew, DidNothing, OwnsTheSame, HasPassGrown}
 
 -- rows of views that weigh the same place by place
@@ -41,10 +40,11 @@ weighs_none g (x ∷ xs) none =
 abbrev own_weighs : (Entry → ℕ) → View Entry → ℕ
 own_weighs f x = weigh (λ (e : ℕ × Entry). f e.1) (own_entries x)
 
-module _ {L : Type 0} where
-  own_at : (k : ServeCell) → PassView L → Log (entry_at {L} k)
-  own_at k v = own_entries (known_at k v)
+-- a fresh view has no own entry
+fresh_own : {E : Type 0} (name : List ℕ) (v : View E) → IsFresh name v → own_entries v ≡ []
+fresh_own name v f = ap (entries_in v.classes) f.seen
 
+module _ {L : Type 0} where
   owns_the_same : (v w : PassView L) → IsLawfulPass v → IsLawfulPass w
       → ((k : ServeCell) → own_entries (known_at k w) ≡ own_entries (known_at k v)) → OwnsTheSame v w
   owns_the_same v w l m same = record {
@@ -54,10 +54,6 @@ module _ {L : Type 0} where
     cached = ap (map (λ e. e.1)) (same AtCache);
     tallied = ap (map (λ e. e.1)) (same AtTally);
   }
-
-  -- a fresh view has no own entry
-  fresh_own : {E : Type 0} (name : List ℕ) (v : View E) → IsFresh name v → own_entries v ≡ []
-  fresh_own name v f = ap (entries_in v.classes) f.seen
 
   pub did_nothing : (v : PassView L) → IsLawfulPass v → IsNew v → DidNothing v
   did_nothing v l new = record {
@@ -83,7 +79,7 @@ tail_of (x ∷ xs) = xs
 
 module _ {A L : Type 0} (known : A → PassView L) where
   -- each row's own entries, of each cell
-  abbrev owns : (k : ServeCell) → List A → List (Log (entry_at {L} k))
+  abbrev owns : (k : ServeCell) → List A → List (Log (entry_at L k))
   owns k xs = map (λ x. own_entries (known_at k (known x))) xs
 
   rows_own : (xs ys : List A) → All (λ x. IsLawfulPass (known x)) xs → All (λ y. IsLawfulPass (known y)) ys
@@ -98,11 +94,10 @@ module _ {A L : Type 0} (known : A → PassView L) where
         (λ k. ap tail_of (same k)),
   )
 
-  module _ {O : Type 0} (is_of : O → A → Type 0) where
-    pub kept_own : (xs ys : List A) → All (λ x. IsLawfulPass (known x)) xs → All (λ y. IsLawfulPass (known y)) ys
-        → KeepOwn (meaning_by known is_of) xs ys → Each OwnsTheSame (map known xs) (map known ys)
-    kept_own xs ys l m keeps = rows_own xs ys l m
-        (λ k. map_map own_entries (λ x. known_at k (known x)) ys ∙ ((keeps k).own ∙ sym (map_map own_entries (λ x. known_at k (known x)) xs)))
+  pub kept_own : (xs ys : List A) → All (λ x. IsLawfulPass (known x)) xs → All (λ y. IsLawfulPass (known y)) ys
+      → OwnIsKept known xs ys → Each OwnsTheSame (map known xs) (map known ys)
+  kept_own xs ys l m keeps = rows_own xs ys l m
+      (λ k. map_map own_entries (λ x. known_at k (known x)) ys ∙ ((keeps k).own ∙ sym (map_map own_entries (λ x. known_at k (known x)) xs)))
 
   -- ---- seats
 
@@ -128,15 +123,13 @@ module _ {A L : Type 0} (known : A → PassView L) where
   rows_classes (x ∷ xs) [] g k = absurd g
   rows_classes (x ∷ xs) (y ∷ ys) g k = λ i. grown_classes (known x) (known y) g.0 k i ∷ rows_classes xs ys g.1 k i
 
-  module _ {O : Type 0} (is_of : O → A → Type 0) where
-    pub grown_seats : (xs ys : List A) → Each HasPassGrown (map known xs) (map known ys)
-        → HoldAllSeats (meaning_by known is_of) xs → HoldAllSeats (meaning_by known is_of) ys
-    grown_seats xs ys g once k = once_by (map (λ x. known_at k (known x)) xs) (map (λ x. known_at k (known x)) ys)
-        (sym (map_map classes_of (λ x. known_at k (known x)) ys) ∙ (rows_classes xs ys g k ∙ map_map classes_of (λ x. known_at k (known x)) xs)) (once k)
+  pub grown_seats : (xs ys : List A) → Each HasPassGrown (map known xs) (map known ys) → SeatsAreOnce known xs → SeatsAreOnce known ys
+  grown_seats xs ys g once k = once_by (map (λ x. known_at k (known x)) xs) (map (λ x. known_at k (known x)) ys)
+      (sym (map_map classes_of (λ x. known_at k (known x)) ys) ∙ (rows_classes xs ys g k ∙ map_map classes_of (λ x. known_at k (known x)) xs)) (once k)
 
 -- ---- seats of the same passes in other rows
 
-pub moved_seats : {A B O N L : Type 0} (known : A → PassView L) (is_of : O → A → Type 0) (other : B → PassView L) (is_other_of : N → B → Type 0)
-    (xs : List A) (ys : List B) → map other ys ≡ map known xs → HoldAllSeats (meaning_by known is_of) xs → HoldAllSeats (meaning_by other is_other_of) ys
-moved_seats known is_of other is_other_of xs ys same once k =
+pub moved_seats : {A B L : Type 0} (known : A → PassView L) (other : B → PassView L) (xs : List A) (ys : List B)
+    → map other ys ≡ map known xs → SeatsAreOnce known xs → SeatsAreOnce other ys
+moved_seats known other xs ys same once k =
     subst HoldsEachOnce (map_map (known_at k) known xs ∙ (ap (map (known_at k)) (sym same) ∙ sym (map_map (known_at k) other ys))) (once k)

@@ -50,7 +50,7 @@ tally_entered e v w s =
     let adds = entered_adds stands no_name e v w s in
     let right : IsTallyPast (tally_past w.seen) = s.is_part.0.right in
     let latest : tally_past w.seen ≡ e ∷ (tally_past s.between ++ tally_past v.seen) = ap tally_past s.seen
-        ∙ (past_on (v.seen ++ s.between) ((seat_of v, e) ∷ []) ∙ ap (λ l. e ∷ l) (past_on v.seen s.between)) in
+    ∙ (past_on (v.seen ++ s.between) ((seat_of v, e) ∷ []) ∙ ap (λ l. e ∷ l) (past_on v.seen s.between)) in
     let told = (subst IsTallyPast latest right).0 in record {
       own = adds.own;
       counted = subst (MayAnswer e.call) (sym (ap (λ (r : TallyReply). r.counted) told.1))

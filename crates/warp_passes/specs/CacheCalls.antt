@@ -8,9 +8,6 @@ use Rattle.turn_cell.specs.declared.pass.Pass.{Pass}
 use Rattle.turn_cell.specs.declared.cell.TurnCell.{TurnCell}
 use Rattle.turn_cell.specs.Calls.{view_of, IsOf}
 use Rattle.fd_cache.specs.declared.lease.Lease.{Lease}
-use Rattle.fd_cache.specs.declared.cache.Cache.{Cache}
-use Rattle.fd_cache.specs.declared.calls.CacheCall.{CacheCall}
-use Rattle.fd_cache.specs.declared.calls.CacheReply.{CacheReply}
 use Rattle.fd_cache.specs.declared.acquired.Acquired.{Acquired}
 use Rattle.fd_cache.specs.declared.acquired.Acquired.TheVariants.{Leased, Absent, Failed, NoMemory, Spent}
 use Rattle.fd_cache.specs.declared.acquired.ReleaseOut.{ReleaseOut}

@@ -1,5 +1,5 @@
 -- To be believed: what a pass of each shared thing knows, what it says to be a pass of them, to be new, and to be split.
-use Rattle.std.specs.Prelude.{◌≡◌, ℕ, List, [], ◌∷◌}
+use Rattle.std.specs.Prelude.{◌≡◌, List, [], ◌∷◌}
 use Rattle.outside.specs.declared.files.Files.{Ghosts}
 use Rattle.reg_keys.specs.declared.event.EventName.{EventName}
 use Rattle.turn_cell.specs.declared.view.View.{View}

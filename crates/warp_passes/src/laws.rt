@@ -2,10 +2,9 @@
 //! runs. They speak of a list of anything that holds a pass of each shared thing, as rows do, by the function to what
 //! its pass knows.
 ghost use Rattle.std.specs.Prelude.{◌≡◌, List, ◌∷◌, All, map};
-ghost use Rattle.level.specs.Meanings.{KeepOwn, AreBroughtLevel, HoldAllSeats};
 ghost use Rattle.dispatcher.specs.Stripes.{Each};
 ghost use Rattle.warp_passes.specs.Passes.{PassView, IsLawfulPass};
-ghost use Rattle.warp_passes.specs.Cells.{meaning_by};
+ghost use Rattle.warp_passes.specs.Cells.{SeatsAreOnce, OwnIsKept, CameLevel};
 ghost use Rattle.warp_passes.specs.Levels.{IsNew, DidNothing, OwnsTheSame, HasPassGrown, ArePassesLevel, PassesAddUp};
 
 use event_mgr::level_passes_add_up as manager_passes_add_up;
@@ -17,26 +16,23 @@ pub fn new_passes_did_nothing<L>()
 {}
 
 /// Where passes lie in other rows, they hold each seat once as before.
-pub fn moved_passes_hold_the_seats<A, B, O, N, L>()
-    ensures { (known : A → PassView L) (is_of : O → A → Type 0) (other : B → PassView L) (is_other_of : N → B → Type 0)
-        (xs : List A) (ys : List B) → map other ys ≡ map known xs →
-        HoldAllSeats (meaning_by known is_of) xs → HoldAllSeats (meaning_by other is_other_of) ys }
+pub fn moved_passes_hold_the_seats<A, B, L>()
+    ensures { (known : A → PassView L) (other : B → PassView L) (xs : List A) (ys : List B) →
+        map other ys ≡ map known xs → SeatsAreOnce known xs → SeatsAreOnce other ys }
 {}
 
 /// Where passes have grown by calls, they hold each seat once as before.
-pub fn grown_passes_hold_the_seats<A, O, L>()
-    ensures { (known : A → PassView L) (is_of : O → A → Type 0) (xs ys : List A) →
-        Each HasPassGrown (map known xs) (map known ys) →
-        HoldAllSeats (meaning_by known is_of) xs → HoldAllSeats (meaning_by known is_of) ys }
+pub fn grown_passes_hold_the_seats<A, L>()
+    ensures { (known : A → PassView L) (xs ys : List A) →
+        Each HasPassGrown (map known xs) (map known ys) → SeatsAreOnce known xs → SeatsAreOnce known ys }
 {}
 
 /// Rows that were brought level are level on each cell, and what each row's pass did is what it had done.
-pub fn levelled_rows_are_level<A, O, L>()
-    ensures level { (known : A → PassView L) (is_of : O → A → Type 0) (xs ys : List A) →
-        AreBroughtLevel (meaning_by known is_of) xs ys → ArePassesLevel known ys }
-    ensures own { (known : A → PassView L) (is_of : O → A → Type 0) (xs ys : List A) →
+pub fn levelled_rows_are_level<A, L>()
+    ensures level { (known : A → PassView L) (xs ys : List A) → CameLevel known xs ys → ArePassesLevel known ys }
+    ensures own { (known : A → PassView L) (xs ys : List A) →
         All (λ x. IsLawfulPass (known x)) xs → All (λ y. IsLawfulPass (known y)) ys →
-        KeepOwn (meaning_by known is_of) xs ys → Each OwnsTheSame (map known xs) (map known ys) }
+        OwnIsKept known xs ys → Each OwnsTheSame (map known xs) (map known ys) }
 {}
 
 /// Whatever entries weigh, what the passes did that were brought level weighs together what the histories weigh that

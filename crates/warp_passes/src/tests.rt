@@ -1,15 +1,19 @@
 //! Passes of one `Shared`: calls on the tally and on the cache, and levelling in between.
-ghost use Rattle.std.specs.Prelude.{◌≡◌, ◌<◌, [], All, length};
+ghost use Rattle.std.specs.Prelude.{◌≡◌, ◌<◌, ℕ, List, [], All, IfOk, length, map};
+ghost use Rattle.reg_keys.specs.declared.event.EventName.{EventName};
+ghost use Rattle.turn_cell.specs.declared.view.View.{View};
+ghost use Rattle.ready_queue.specs.declared.rule.Move.{Move};
+ghost use Rattle.timeout_mgr.specs.declared.view.TimeView.{TimeView};
 ghost use Rattle.level.specs.Meanings.{HoldAllSeats};
 ghost use Rattle.outside.specs.MemFolder.{folder_in};
-ghost use Rattle.warp_passes.specs.Passes.{AreOf, pass_view, rest_of};
-ghost use Rattle.warp_passes.specs.Cells.{serve_meaning};
+ghost use Rattle.warp_passes.specs.Passes.{AreOf, pass_view};
+ghost use Rattle.warp_passes.specs.Cells.{meaning_by, rest_of, serve_meaning};
 ghost use Rattle.warp_passes.specs.Levels.{HasPassGrown};
 
 use crate::{
-    ReapOut, ServePass, Shared, TallyOut, accept, acquire, bring_rows_level, finish,
-    grown_passes_hold_the_seats, look, reap_once,
-    release, shared_among, stop, turn_away,
+    ReapOut, ServePass, ShareRow, Shared, TallyOut, accept, acquire, bring_rows_level, finish,
+    grown_passes_hold_the_seats, look, moved_passes_hold_the_seats, reap_once, release,
+    shared_among, stop, turn_away,
 };
 use fd_cache::{Acquired, Basket, Lease, ReleaseOut};
 use outside::{Files, MemFile, MemFiles, Place};
@@ -66,7 +70,7 @@ fn call_at<R: Wait, F: Files>(
     ensures seats { HoldAllSeats serve_meaning passes.new.items }
 {
     // A law of seats, for the proof: it does nothing when run.
-    grown_passes_hold_the_seats::<ServePass<Job, F>, Shared<Job, F>, Lease<F>>();
+    grown_passes_hold_the_seats::<ServePass<Job, F>, Lease<F>>();
     let pass = &mut passes[place];
     call_with(rt, shared, pass, call)
 }
@@ -120,31 +124,115 @@ fn reaps_what_came_back<R: Wait + Abort, K: Place>(
     let mut other = shared.split(alloc, &mut pass)?;
     let basket = Basket::new(alloc)?;
 
-    let out = acquire(alloc, rt, &shared.cache, &mut pass.cache, "a.txt", &mut files);
+    let out = acquire(
+        alloc,
+        rt,
+        &shared.cache,
+        &mut pass.cache,
+        "a.txt",
+        &mut files,
+    );
     let Acquired::Leased(lease) = out else {
         panic!(rt; "the file is there");
     };
     assert_eq!(rt; lease.size, 5);
     let (out, basket) = reap_once(rt, &shared.cache, &mut other.cache, basket);
     assert_eq!(rt; out, ReapOut::Reaped);
-    assert_eq!(rt; release(rt, &shared.cache, &mut pass.cache, lease), ReleaseOut::Released);
+    assert_eq!(rt;
+        release(rt, &shared.cache, &mut pass.cache, lease),
+        ReleaseOut::Released
+    );
 
     // It is kept, so that nothing is looked for.
-    let out = acquire(alloc, rt, &shared.cache, &mut other.cache, "a.txt", &mut files);
+    let out = acquire(
+        alloc,
+        rt,
+        &shared.cache,
+        &mut other.cache,
+        "a.txt",
+        &mut files,
+    );
     let Acquired::Leased(lease) = out else {
         panic!(rt; "the file is open");
     };
     assert_eq!(rt; files.finds(), 1);
-    assert_eq!(rt; release(rt, &shared.cache, &mut other.cache, lease), ReleaseOut::Released);
+    assert_eq!(rt;
+        release(rt, &shared.cache, &mut other.cache, lease),
+        ReleaseOut::Released
+    );
 
     // Two reaps back to back close it.
     let (_, basket) = reap_once(rt, &shared.cache, &mut pass.cache, basket);
     let (out, basket) = reap_once(rt, &shared.cache, &mut pass.cache, basket);
     assert_eq!(rt; out, ReapOut::Reaped);
     assert_eq!(rt; basket.len(), 0);
-    let out = acquire(alloc, rt, &shared.cache, &mut pass.cache, "a.txt", &mut files);
+    let out = acquire(
+        alloc,
+        rt,
+        &shared.cache,
+        &mut pass.cache,
+        "a.txt",
+        &mut files,
+    );
     assert!(rt; matches!(out, Acquired::Leased(_)));
     assert_eq!(rt; files.finds(), 2);
+    Ok(())
+}
+
+/// A row of a pass and of something else, which levelling leaves alone.
+#[derive(Drop)]
+struct Row<F: Files> {
+    pass: ServePass<Job, F>,
+    beside: u64,
+}
+
+impl<F: Files> ShareRow for Row<F> {
+    type Of = Shared<Job, F>;
+
+    ghost meaning = { record {
+      passes = meaning_by (λ row. pass_view row.pass) (λ shared row. AreOf shared row.pass);
+      beside = ℕ × View Move × List EventName × TimeView;
+      rest = λ row. (row.beside, rest_of (pass_view row.pass));
+    } };
+
+    fn share_row(of: &Shared<Job, F>, from: &mut Row<F>, to: &mut Row<F>) {
+        ShareRow::share_row(of, &mut from.pass, &mut to.pass);
+    }
+}
+
+/// Rows with these passes, in their order.
+fn rows_of<F: Files>(
+    alloc: Global,
+    passes: Vec<ServePass<Job, F>>,
+) -> Result<Vec<Row<F>>, AllocError>
+    ensures { IfOk result (λ rows. map (λ row. row.pass) rows.items ≡ passes.items) }
+{
+    let mut rows = Vec::with_capacity(alloc, passes.len())?;
+    for pass in passes {
+        rows.push_reserved(Row { pass, beside: 7 });
+    }
+    Ok(rows)
+}
+
+/// Rows of three passes are brought level where they lie.
+fn levels_rows<R: Abort, K: Place>(rt: &R, alloc: Global) -> Result<(), AllocError> {
+    // A law of seats, for the proof: it does nothing when run.
+    moved_passes_hold_the_seats::<
+        ServePass<Job, MemFiles<K>>,
+        Row<MemFiles<K>>,
+        Lease<MemFiles<K>>,
+    >();
+    let (shared, passes) = shared_among::<Job, MemFiles<K>>(alloc, 3)?;
+    let mut rows = rows_of(alloc, passes)?;
+    bring_rows_level(&shared, rows.as_mut_slice());
+    assert_eq!(rt; rows.len(), 3);
+    assert!(rt; rows.iter().all(|row| row.beside == 7));
+    Ok(())
+}
+
+#[test]
+fn rows_are_brought_level_where_they_lie(rt: HostRuntime) -> Result<(), Fail> {
+    levels_rows::<HostRuntime, Brand>(&rt, rt.alloc())?;
     Ok(())
 }
 

@@ -1,10 +1,10 @@
-use Rattle.std.proofs.Common.{rules, ◌≡◌, ◌<◌, All, [], ◌∷◌, ◌++◌, length, refl, sym, ap, ◌∙◌, subst, arith}
+use Rattle.std.proofs.Common.{rules, ◌≡◌, ◌<◌, [], ◌∷◌, length, refl, sym, subst, arith}
 use Rattle.std.specs.Prelude.{slice_get, Some}
 use Rattle.std.proofs.lemmas.Option.{slice_get_read, get_or_from_slice_get}
 use Rattle.std.proofs.lemmas.List.Elements.{All-nil, All-cons, All-set, All-append}
 use Rattle.warp_passes.specs.Passes.{AreOf, pass_view, lawful_of}
 use Rattle.warp_passes.specs.Levels.{IsNew, AreNewPasses}
-use Rattle.warp_passes.proofs.NewPasses.{first_known, split_known, first_new, left_new, right_new}
+use Rattle.warp_passes.proofs.NewPasses.{one_item, first_known, split_known, first_new, left_new, right_new}
 use Rattle.warp_passes.proofs.making.shared_among.Goals as goal
 
 pub loop-init : goal.loop-init
@@ -13,7 +13,7 @@ loop-init g c =
     let p = c.in_ok-shared.first in
     let e = c.in_ok-shared.ensures in
     let law = c.manager_passes_are_split_cell_by_cell.ensures.first in
-    let it : c.push_reserved.new.self.items ≡ p ∷ [] = c.push_reserved.ensures.items ∙ ap (λ l. l ++ p ∷ []) c.in_ok-passes.ensures.items in record {
+    let it : c.push_reserved.new.self.items ≡ p ∷ [] = one_item c.in_ok-passes.passes.items c.push_reserved.new.self.items p c.in_ok-passes.ensures.items c.push_reserved.ensures.items in record {
       some = omega arith;
       count = search rules;
       room = search rules;
