@@ -6,3 +6,4 @@ mod SameOwn
 mod LevelSums
 mod RowRest
 mod NewPasses
+mod GrownPasses

@@ -1,17 +1,14 @@
 -- To be believed: the cells that a pass of each shared thing holds a pass of, so that passes can be brought level.
 use Rattle.std.specs.Prelude.{List, map}
 use Rattle.outside.specs.declared.files.Files.{Ghosts}
-use Rattle.reg_keys.specs.declared.event.EventName.{EventName}
 use Rattle.turn_cell.specs.declared.view.View.{View}
-use Rattle.ready_queue.specs.declared.rule.Move.{Move}
-use Rattle.timeout_mgr.specs.declared.view.TimeView.{TimeView}
 use Rattle.level.specs.Leveling.{HasShared, HoldsEachOnce, KeepsOwn, BroughtLevel}
 use Rattle.level.specs.Meanings.{PassMeaning}
 use Rattle.event_mgr.specs.Level.{MgrCell}
 use Rattle.event_mgr.specs.Level as Mgr
 use Rattle.fd_cache.specs.declared.deed.CacheDeed.{CacheDeed}
 use Rattle.warp_tally.specs.declared.calls.TallyEntry.{TallyEntry}
-use Rattle.warp_passes.specs.Passes.{PassView, AreOf, pass_view}
+use Rattle.warp_passes.specs.Passes.{PassView, PassRest, AreOf, pass_view, rest_of}
 use Rattle.warp_passes.specs.Rows.{RowMeaning}
 use Rattle.warp_passes.specs.declared.shared.Shared.{Shared}
 use Rattle.warp_passes.specs.declared.shared.ServePass.{ServePass}
@@ -57,10 +54,6 @@ module _ {L : Type 0} where
   abbrev pub meaning_by : {A O : Type 0} → (A → PassView L) → (O → A → Type 0) → PassMeaning A O
   meaning_by known is_of = record { cell = ServeCell; entry = entry_at L; view = λ k x. known_at k (known x); is_of = is_of }
 
-  -- what a pass holds beside the passes of cells: those of the queue and of the timeouts, and the hand
-  abbrev pub rest_of : PassView L → View Move × List EventName × TimeView
-  rest_of v = (v.queue, v.hand, v.times)
-
 module _ {J F X : Type 0} {G : Ghosts F X} where
   -- the same of a pass alone
   abbrev pub serve_meaning : PassMeaning (ServePass J F X G) (Shared J F X G)
@@ -68,4 +61,4 @@ module _ {J F X : Type 0} {G : Ghosts F X} where
 
   -- a pass alone as a row
   abbrev pub pass_row : RowMeaning (ServePass J F X G) (Shared J F X G)
-  pass_row = record { passes = serve_meaning; beside = View Move × List EventName × TimeView; rest = λ p. rest_of (pass_view p) }
+  pass_row = record { passes = serve_meaning; beside = PassRest; rest = λ p. rest_of (pass_view p) }

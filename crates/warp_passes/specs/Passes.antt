@@ -33,7 +33,17 @@ pub record PassView (L : Type 0) : Type 0 where
   pub cache : View (CacheDeed L)
   pub tally : View TallyEntry
 
+-- what of it is of no turn cell: the passes of the queue and of the timeouts, and the hand
+pub record PassRest : Type 0 where
+  pub queue : View Move
+  pub hand : List EventName
+  pub times : TimeView
+
 module _ {L : Type 0} where
+  -- what of a pass is of no turn cell
+  abbrev pub rest_of : PassView L → PassRest
+  rest_of v = record { queue = v.queue; hand = v.hand; times = v.times }
+
   -- what was seen of each cell's history is right: each reply is the one that its call must have
   pub record IsLawfulPass (v : PassView L) : Type 0 where
     pub mgr : IsLawful v.mgr
@@ -59,12 +69,6 @@ module _ {L : Type 0} where
     pub timeless : o.times ≡ record Times.first_view { seen = v.times.seen }
     pub cache : IsSplit v.cache w.cache o.cache
     pub tally : IsSplit v.tally w.tally o.tally
-
-  -- what is no cell's is as it was: the passes of the queue and of the timeouts, and the hand
-  pub record KeepsRest (v w : PassView L) : Type 0 where
-    pub queue : w.queue ≡ v.queue
-    pub hand : w.hand ≡ v.hand
-    pub times : w.times ≡ v.times
 
 module _ {J F X : Type 0} {G : Ghosts F X} where
   -- what the pass knows

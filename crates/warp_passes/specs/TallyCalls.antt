@@ -54,3 +54,8 @@ pub record TallySpent (v w : View TallyEntry) : Type 0 where
 abbrev pub HasCalled : TallyCall → View TallyEntry → TallyOut → View TallyEntry → Type 0
 HasCalled call v (Done reply) w = TallyEntered (record { call = call; reply = reply }) v w
 HasCalled call v Spent w = TallySpent v w
+
+-- so by any answer the pass has grown: its seats are the same, and it forgot nothing
+abbrev pub called_grown : (call : TallyCall) (v : View TallyEntry) (r : TallyOut) (w : View TallyEntry) → HasCalled call v r w → HasGrown v w
+called_grown call v (Done reply) w e = e.grown
+called_grown call v Spent w e = e.grown

@@ -45,7 +45,7 @@ pub struct ServePass<J, F: Files> {
 }
 
 impl<J: Load, F: Files> Shared<J, F> {
-    ghost use Rattle.warp_passes.specs.Passes.{AreOf, IsFirst, IsPassSplit, KeepsRest, pass_view};
+    ghost use Rattle.warp_passes.specs.Passes.{AreOf, IsFirst, IsPassSplit, pass_view, rest_of};
     ghost use Rattle.warp_passes.specs.Cells.{ArePassesShared};
 
     /// All things new, and their first pass: it has all seats, has seen nothing and did nothing. All memory that
@@ -123,8 +123,8 @@ impl<J: Load, F: Files> Shared<J, F> {
         ensures from { AreOf self.now from.new }
         ensures to { AreOf self.now to.new }
         ensures shared { ArePassesShared (pass_view from.old) (pass_view to.old) (pass_view from.new) (pass_view to.new) }
-        ensures rest { KeepsRest (pass_view from.old) (pass_view from.new) }
-        ensures other_rest { KeepsRest (pass_view to.old) (pass_view to.new) }
+        ensures rest { rest_of (pass_view from.new) ≡ rest_of (pass_view from.old) }
+        ensures other_rest { rest_of (pass_view to.new) ≡ rest_of (pass_view to.old) }
     {
         let disp = &mut from.disp;
         let other = &mut to.disp;

@@ -1,13 +1,9 @@
 //! Passes of one `Shared`: calls on the tally and on the cache, and levelling in between.
-ghost use Rattle.std.specs.Prelude.{◌≡◌, ◌<◌, ℕ, List, [], All, IfOk, length, map};
-ghost use Rattle.reg_keys.specs.declared.event.EventName.{EventName};
-ghost use Rattle.turn_cell.specs.declared.view.View.{View};
-ghost use Rattle.ready_queue.specs.declared.rule.Move.{Move};
-ghost use Rattle.timeout_mgr.specs.declared.view.TimeView.{TimeView};
+ghost use Rattle.std.specs.Prelude.{◌≡◌, ℕ, [], All, IfOk, map};
 ghost use Rattle.level.specs.Meanings.{HoldAllSeats};
 ghost use Rattle.outside.specs.MemFolder.{folder_in};
-ghost use Rattle.warp_passes.specs.Passes.{AreOf, pass_view};
-ghost use Rattle.warp_passes.specs.Cells.{meaning_by, rest_of, serve_meaning};
+ghost use Rattle.warp_passes.specs.Passes.{AreOf, PassRest, pass_view, rest_of};
+ghost use Rattle.warp_passes.specs.Cells.{meaning_by, serve_meaning};
 ghost use Rattle.warp_passes.specs.Levels.{HasPassGrown};
 
 use crate::{
@@ -54,60 +50,89 @@ fn call_with<R: Wait, F: Files>(
     }
 }
 
-/// The same with the pass at a place.
-fn call_at<R: Wait, F: Files>(
+/// One call on the tally: whose pass makes it, and whether it counts, what is then accepted and finished, and the
+/// first stop.
+#[derive(Clone, Copy)]
+struct Step {
+    place: usize,
+    call: TallyCall,
+    shown: (Counted, u64, u64, Option<u8>),
+}
+
+/// Whether a call is answered as the step has it.
+fn shows(out: TallyOut, step: Step) -> bool {
+    match out {
+        TallyOut::Done(reply) => {
+            (reply.counted, reply.accepted, reply.finished, reply.stop) == step.shown
+        }
+        TallyOut::Spent => false,
+    }
+}
+
+/// Makes a call with the pass at its place, and says whether it is answered as the step has it.
+fn is_answered<R: Wait, F: Files>(
     rt: &R,
     shared: &Shared<Job, F>,
     passes: &mut Vec<ServePass<Job, F>>,
-    place: usize,
-    call: TallyCall,
-) -> TallyOut
-    requires place { place < length passes.old.items }
+    step: Step,
+) -> bool
     requires own { All (λ p. AreOf shared.now p) passes.old.items }
     requires seats { HoldAllSeats serve_meaning passes.old.items }
-    ensures count { length passes.new.items ≡ length passes.old.items }
     ensures own { All (λ p. AreOf shared.now p) passes.new.items }
     ensures seats { HoldAllSeats serve_meaning passes.new.items }
 {
     // A law of seats, for the proof: it does nothing when run.
     grown_passes_hold_the_seats::<ServePass<Job, F>, Lease<F>>();
-    let pass = &mut passes[place];
-    call_with(rt, shared, pass, call)
-}
-
-/// What a call is answered, as whether it counted, what was accepted and finished, and the first stop.
-fn shown(out: TallyOut) -> Option<(Counted, u64, u64, Option<u8>)> {
-    match out {
-        TallyOut::Done(reply) => Some((reply.counted, reply.accepted, reply.finished, reply.stop)),
-        TallyOut::Spent => None,
+    if step.place >= passes.len() {
+        return false;
     }
+    let pass = &mut passes[step.place];
+    let out = call_with(rt, shared, pass, step.call);
+    shows(out, step)
 }
 
-/// Two dispatchers count on one tally, and their passes are brought level in between.
+/// Makes the calls in their order, and then brings the passes level.
+fn play<R: Wait + Abort, F: Files>(
+    rt: &R,
+    shared: &Shared<Job, F>,
+    passes: &mut Vec<ServePass<Job, F>>,
+    steps: &[Step],
+)
+    requires own { All (λ p. AreOf shared.now p) passes.old.items }
+    requires seats { HoldAllSeats serve_meaning passes.old.items }
+    ensures own { All (λ p. AreOf shared.now p) passes.new.items }
+    ensures seats { HoldAllSeats serve_meaning passes.new.items }
+{
+    for step in steps {
+        assert!(rt; is_answered(rt, shared, passes, *step));
+    }
+    bring_rows_level(shared, passes.as_mut_slice());
+}
+
+/// Two dispatchers count on one tally. Their passes are brought level, and go on.
 fn counts_on_one_tally<R: Wait + Abort, K: Place>(rt: &R, alloc: Global) -> Result<(), AllocError> {
     let (shared, mut passes) = shared_among::<Job, MemFiles<K>>(alloc, 2)?;
     let one = Opening { number: 32, fd: 0 };
     let other = Opening { number: 33, fd: 1 };
-
-    let out = call_at(rt, &shared, &mut passes, 0, TallyCall::Accept(one));
-    assert!(rt; shown(out) == Some((Counted::Yes, 1, 0, None)));
-    let out = call_at(rt, &shared, &mut passes, 1, TallyCall::Accept(other));
-    assert!(rt; shown(out) == Some((Counted::Yes, 2, 0, None)));
-    let out = call_at(rt, &shared, &mut passes, 0, TallyCall::Finish(other));
-    assert!(rt; shown(out) == Some((Counted::Yes, 2, 1, None)));
-    let out = call_at(rt, &shared, &mut passes, 1, TallyCall::Finish(other));
-    assert!(rt; shown(out) == Some((Counted::No, 2, 1, None)));
-
-    bring_rows_level(&shared, passes.as_mut_slice());
+    let step = |place: usize, call: TallyCall, shown: (Counted, u64, u64, Option<u8>)| -> Step {
+        Step { place, call, shown }
+    };
+    let before = [
+        step(0, TallyCall::Accept(one), (Counted::Yes, 1, 0, None)),
+        step(1, TallyCall::Accept(other), (Counted::Yes, 2, 0, None)),
+        step(0, TallyCall::Finish(other), (Counted::Yes, 2, 1, None)),
+        step(1, TallyCall::Finish(other), (Counted::No, 2, 1, None)),
+    ];
+    play(rt, &shared, &mut passes, &before);
+    let behind = [
+        step(1, TallyCall::Finish(one), (Counted::Yes, 2, 2, None)),
+        step(0, TallyCall::TurnAway, (Counted::Yes, 3, 2, None)),
+        step(1, TallyCall::Stop(13), (Counted::Yes, 3, 2, Some(13))),
+        step(0, TallyCall::Stop(14), (Counted::No, 3, 2, Some(13))),
+        step(0, TallyCall::Look, (Counted::No, 3, 2, Some(13))),
+    ];
+    play(rt, &shared, &mut passes, &behind);
     assert_eq!(rt; passes.len(), 2);
-    let out = call_at(rt, &shared, &mut passes, 1, TallyCall::Finish(one));
-    assert!(rt; shown(out) == Some((Counted::Yes, 2, 2, None)));
-    let out = call_at(rt, &shared, &mut passes, 0, TallyCall::TurnAway);
-    assert!(rt; shown(out) == Some((Counted::Yes, 3, 2, None)));
-    let out = call_at(rt, &shared, &mut passes, 1, TallyCall::Stop(13));
-    assert!(rt; shown(out) == Some((Counted::Yes, 3, 2, Some(13))));
-    let out = call_at(rt, &shared, &mut passes, 0, TallyCall::Look);
-    assert!(rt; shown(out) == Some((Counted::No, 3, 2, Some(13))));
     Ok(())
 }
 
@@ -191,7 +216,7 @@ impl<F: Files> ShareRow for Row<F> {
 
     ghost meaning = { record {
       passes = meaning_by (λ row. pass_view row.pass) (λ shared row. AreOf shared row.pass);
-      beside = ℕ × View Move × List EventName × TimeView;
+      beside = ℕ × PassRest;
       rest = λ row. (row.beside, rest_of (pass_view row.pass));
     } };
 
