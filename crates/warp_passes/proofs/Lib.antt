@@ -7,3 +7,4 @@ mod LevelSums
 mod RowRest
 mod NewPasses
 mod GrownPasses
+mod RowsOfPasses
