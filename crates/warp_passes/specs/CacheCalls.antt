@@ -23,13 +23,16 @@ use Rattle.warp_passes.specs.declared.cache.ReapOut.{ReapOut}
 use Rattle.warp_passes.specs.declared.cache.ReapOut.TheVariants as Reaps
 
 module _ {P C R L : Type 0} where
-  -- the pass is of the cell, and in what it has seen each reply is the one that the history before it called for
+  -- the pass is of the cell, and in what it has seen each reply is the one that the history before it called
+  -- for
   pub record IsCacheOf (c : TurnCell P C R (CacheDeed L)) (p : Pass P (CacheDeed L)) : Type 0 where
     pub cell : IsOf c p
     pub legal : IsCacheHistory (past_of (view_of p).seen)
 
--- Of all that the pass did some deeds alone are new, and they are as `Did` says. Where `met` says so, the pass has met the cell with 2 ^ 62 entries
-pub record HasCached {L : Type 0} (Did : List (CacheDeed L) → Type 0) (met : Bool) (v w : View (CacheDeed L)) : Type 0 where
+-- Of all that the pass did some deeds alone are new, and they are as `Did` says. Where `met` says so, the
+-- pass has met the cell with 2 ^ 62 entries
+pub record HasCached {L : Type 0} (Did : List (CacheDeed L) → Type 0) (met : Bool)
+    (v w : View (CacheDeed L)) : Type 0 where
   pub piece : List (CacheDeed L)
   pub did : Did piece
   pub adds : Adds piece v w
@@ -37,19 +40,24 @@ pub record HasCached {L : Type 0} (Did : List (CacheDeed L) → Type 0) (met : B
 
 module _ {F X : Type 0} {G : Ghosts F X} where
   -- how an acquire went: its deeds in their order, and what the files told before and after
-  pub data DidAcquire (path : List ℕ) (result : Acquired F X G) (old new : FilesTold) (piece : List (CacheDeed (Lease F X G))) : Type 0 where
+  pub data DidAcquire (path : List ℕ) (result : Acquired F X G) (old new : FilesTold)
+      (piece : List (CacheDeed (Lease F X G))) : Type 0 where
     -- a lease came back before, and the files weren't asked
-    hit : (lease : Lease F X G) → result ≡ Leased lease → piece ≡ Deeds.Hit (number_of lease.entry) path lease ∷ [] → new ≡ old → DidAcquire path result old new piece
+    hit : (lease : Lease F X G) → result ≡ Leased lease → piece ≡ Deeds.Hit (number_of lease.entry) path lease ∷ []
+        → new ≡ old → DidAcquire path result old new piece
     -- the files were looked at, and the ticket ended
-    fresh : (k : ℕ) → piece ≡ Deeds.Fresh k path ∷ ending k path result ∷ [] → LookedSo result path old new → DidAcquire path result old new piece
+    fresh : (k : ℕ) → piece ≡ Deeds.Fresh k path ∷ ending k path result ∷ []
+        → LookedSo result path old new → DidAcquire path result old new piece
     -- the files were looked at for a path that the cache doesn't keep
-    past : piece ≡ Deeds.Bypass path ∷ [] → LookedSo result path old new → DidAcquire path result old new piece
+    past : piece ≡ Deeds.Bypass path ∷ []
+        → LookedSo result path old new → DidAcquire path result old new piece
     -- memory was short before anything was asked
     short : result ≡ NoMemory → piece ≡ [] → new ≡ old → DidAcquire path result old new piece
     -- the cell took no call
     spent : result ≡ Spent → piece ≡ [] → new ≡ old → DidAcquire path result old new piece
     -- the cell took no call that would have ended the ticket
-    cut : (k : ℕ) (found : FindOut X) → result ≡ Spent → piece ≡ Deeds.Fresh k path ∷ [] → Looked found path old new → DidAcquire path result old new piece
+    cut : (k : ℕ) (found : FindOut X) → result ≡ Spent → piece ≡ Deeds.Fresh k path ∷ []
+        → Looked found path old new → DidAcquire path result old new piece
 
   -- an acquire that answers `Spent` has met the cell with 2 ^ 62 entries
   abbrev pub acquire_met : Acquired F X G → Bool
@@ -61,7 +69,8 @@ module _ {F X : Type 0} {G : Ghosts F X} where
 
   -- the lease is back, or the cell took no call
   abbrev pub DidRelease : Lease F X G → ReleaseOut → List (CacheDeed (Lease F X G)) → Type 0
-  DidRelease lease Releases.Released piece = (deed : CacheDeed (Lease F X G)) × IsRelease lease deed × (piece ≡ deed ∷ [])
+  DidRelease lease Releases.Released piece =
+      (deed : CacheDeed (Lease F X G)) × IsRelease lease deed × (piece ≡ deed ∷ [])
   DidRelease lease Releases.Spent piece = piece ≡ []
 
 -- a release that answers `Spent` has met the cell with 2 ^ 62 entries

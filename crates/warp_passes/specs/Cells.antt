@@ -1,4 +1,5 @@
--- To be believed: the cells that a pass of each shared thing holds a pass of, so that passes can be brought level.
+-- To be believed: the cells that a pass of each shared thing holds a pass of, so that passes can be brought
+-- level.
 use Rattle.std.specs.Prelude.{List, map}
 use Rattle.outside.specs.declared.files.Files.{Ghosts}
 use Rattle.turn_cell.specs.declared.view.View.{View}
@@ -13,7 +14,8 @@ use Rattle.warp_passes.specs.Rows.{RowMeaning}
 use Rattle.warp_passes.specs.declared.shared.Shared.{Shared}
 use Rattle.warp_passes.specs.declared.shared.ServePass.{ServePass}
 
--- the cells: those of the manager, which are one for each stripe and that of the numbers, that of the cache, and that of the tally. The queue and the timeouts are no turn cells
+-- the cells: those of the manager, which are one for each stripe and that of the numbers, that of the cache,
+-- and that of the tally. The queue and the timeouts are no turn cells
 pub data ServeCell : Type 0 where
   AtMgr : MgrCell → ServeCell
   AtCache : ServeCell
@@ -34,9 +36,11 @@ module _ {L : Type 0} where
 
   -- of each cell, the pass that knew v, and then v', told the one that knew w, and then w', what it had seen
   abbrev pub ArePassesShared : PassView L → PassView L → PassView L → PassView L → Type 0
-  ArePassesShared v w v' w' = (k : ServeCell) → HasShared (known_at k v) (known_at k w) (known_at k v') (known_at k w')
+  ArePassesShared v w v' w' =
+      (k : ServeCell) → HasShared (known_at k v) (known_at k w) (known_at k v') (known_at k w')
 
-  -- The same three things that levelling says of any passes, of whatever holds a pass of each shared thing, by the function to what that knows
+  -- The same three things that levelling says of any passes, of whatever holds a pass of each shared thing,
+  -- by the function to what that knows
   module _ {A : Type 0} (known : A → PassView L) where
     -- of each cell, each number is a seat of exactly one of the passes
     abbrev pub SeatsAreOnce : List A → Type 0
@@ -44,15 +48,19 @@ module _ {L : Type 0} where
 
     -- of each cell, no pass made a call, and none forgot anything
     abbrev pub OwnIsKept : List A → List A → Type 0
-    OwnIsKept xs ys = (k : ServeCell) → KeepsOwn (map (λ x. known_at k (known x)) xs) (map (λ x. known_at k (known x)) ys)
+    OwnIsKept xs ys =
+        (k : ServeCell) → KeepsOwn (map (λ x. known_at k (known x)) xs) (map (λ x. known_at k (known x)) ys)
 
     -- of each cell, the passes of xs were brought to one history, and are those of ys
     abbrev pub CameLevel : List A → List A → Type 0
-    CameLevel xs ys = (k : ServeCell) → BroughtLevel (map (λ x. known_at k (known x)) xs) (map (λ x. known_at k (known x)) ys)
+    CameLevel xs ys =
+        (k : ServeCell) → BroughtLevel (map (λ x. known_at k (known x)) xs) (map (λ x. known_at k (known x)) ys)
 
-  -- what levelling is told of whatever holds a pass of each shared thing: what its pass knows, and that it is a pass of them
+  -- what levelling is told of whatever holds a pass of each shared thing: what its pass knows, and that it is
+  -- a pass of them
   abbrev pub meaning_by : {A O : Type 0} → (A → PassView L) → (O → A → Type 0) → PassMeaning A O
-  meaning_by known is_of = record { cell = ServeCell; entry = entry_at L; view = λ k x. known_at k (known x); is_of = is_of }
+  meaning_by known is_of =
+      record { cell = ServeCell; entry = entry_at L; view = λ k x. known_at k (known x); is_of = is_of }
 
 module _ {J F X : Type 0} {G : Ghosts F X} where
   -- the same of a pass alone

@@ -1,4 +1,5 @@
--- To be believed: what passes of the shared things did together, once they were brought level. It is said of a list of anything that holds such a pass, by the function to what that knows.
+-- To be believed: what passes of the shared things did together, once they were brought level. It is said of
+-- a list of anything that holds such a pass, by the function to what that knows.
 use Rattle.std.specs.Prelude.{◌≡◌, ℕ, List, [], ◌∷◌, map, All}
 use Rattle.outside.specs.declared.files.Files.{Ghosts}
 use Rattle.reg_keys.specs.declared.entry.Entry.{Entry}
@@ -45,7 +46,8 @@ module _ {L : Type 0} where
     pub cached : entries_of w.cache ≡ entries_of v.cache
     pub tallied : entries_of w.tally ≡ entries_of v.tally
 
-  -- of each cell the pass has grown: its seats are the same, it forgot nothing, and its entries are those that it had and maybe more
+  -- of each cell the pass has grown: its seats are the same, it forgot nothing, and its entries are those
+  -- that it had and maybe more
   pub record HasPassGrown (v w : PassView L) : Type 0 where
     pub mgr : AllGrown v.mgr w.mgr
     pub cache : HasGrown v.cache w.cache
@@ -59,16 +61,21 @@ module _ {A L : Type 0} (known : A → PassView L) where
     pub cache : IsLevel (map (λ x. (known x).cache) xs)
     pub tally : IsLevel (map (λ x. (known x).tally) xs)
 
-  -- What all passes did together is what the first, like each of them, has seen: on each cell one history whose replies are right. Whatever entries weigh, what the passes did weighs together what these histories weigh
+  -- What all passes did together is what the first, like each of them, has seen: on each cell one history
+  -- whose replies are right. Whatever entries weigh, what the passes did weighs together what these histories
+  -- weigh
   pub record PassesAddUp (x : A) (xs : List A) : Type 0 where
     pub mgr : Mgr.AddUp (λ y. (known y).mgr) x xs
     pub legal : IsCacheHistory (past_of (known x).cache.seen)
-    pub cached : (f : CacheDeed L → ℕ) → weigh (λ y. weigh f (entries_of (known y).cache)) (x ∷ xs) ≡ weigh f (past_of (known x).cache.seen)
+    pub cached : (f : CacheDeed L → ℕ) → weigh (λ y. weigh f (entries_of (known y).cache)) (x ∷ xs)
+        ≡ weigh f (past_of (known x).cache.seen)
     pub right : IsTallyPast (tally_past (known x).tally.seen)
-    pub tallied : (f : TallyEntry → ℕ) → weigh (λ y. weigh f (entries_of (known y).tally)) (x ∷ xs) ≡ total f (tally_past (known x).tally.seen)
+    pub tallied : (f : TallyEntry → ℕ) → weigh (λ y. weigh f (entries_of (known y).tally)) (x ∷ xs)
+        ≡ total f (tally_past (known x).tally.seen)
 
 module _ {J F X : Type 0} {G : Ghosts F X} where
-  -- passes that a server begins with: each is of the shared things and new, and of each cell each number is a seat of exactly one of them
+  -- passes that a server begins with: each is of the shared things and new, and of each cell each number is a
+  -- seat of exactly one of them
   pub record AreNewPasses (s : Shared J F X G) (ps : List (ServePass J F X G)) : Type 0 where
     pub own : All (λ p. AreOf s p) ps
     pub new : All (λ p. IsNew (pass_view p)) ps

@@ -9,7 +9,8 @@ module _ {E : Type 0} where
   abbrev pub entries_of : View E → List E
   entries_of v = map (λ e. e.1) (own_entries v)
 
-  -- Of all that the pass did, these entries alone are new. Its seats are the same, it has seen what it had seen and maybe more, and where it has met a spent cell it doesn't forget that
+  -- Of all that the pass did, these entries alone are new. Its seats are the same, it has seen what it had
+  -- seen and maybe more, and where it has met a spent cell it doesn't forget that
   pub record Adds (piece : List E) (v w : View E) : Type 0 where
     pub own : entries_of w ≡ entries_of v ++ piece
     pub grown : HasGrown v w

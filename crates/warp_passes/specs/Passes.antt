@@ -1,4 +1,5 @@
--- To be believed: what a pass of each shared thing knows, what it says to be a pass of them, to be new, and to be split.
+-- To be believed: what a pass of each shared thing knows, what it says to be a pass of them, to be new, and
+-- to be split.
 use Rattle.std.specs.Prelude.{◌≡◌, List, [], ◌∷◌}
 use Rattle.outside.specs.declared.files.Files.{Ghosts}
 use Rattle.reg_keys.specs.declared.event.EventName.{EventName}
@@ -59,7 +60,9 @@ module _ {L : Type 0} where
     pub cache : v.cache ≡ first_view []
     pub tally : v.tally ≡ first_view []
 
-  -- A pass that knew v was split: it knows w, and the new one o. Of each cell and of the queue its entries stay its own, the new one has none, and the two share its seats. Of the timeouts the new one has seen as much and did nothing. The hand stays, and the new one is empty
+  -- A pass that knew v was split: it knows w, and the new one o. Of each cell and of the queue its entries
+  -- stay its own, the new one has none, and the two share its seats. Of the timeouts the new one has seen as
+  -- much and did nothing. The hand stays, and the new one is empty
   pub record IsPassSplit (v w o : PassView L) : Type 0 where
     pub mgr : IsMgrSplit v.mgr w.mgr o.mgr
     pub queue : IsSplit v.queue w.queue o.queue

@@ -18,7 +18,8 @@ use Rattle.warp_passes.specs.declared.tally.TallyOut.{TallyOut}
 use Rattle.warp_passes.specs.declared.tally.TallyOut.TheVariants.{Done, Spent}
 
 -- the pass is of the cell, and in what it has seen each reply is the one that its call must have
-pub record IsTallyOf (c : TurnCell Tally TallyCall TallyReply TallyEntry) (p : Pass Tally TallyEntry) : Type 0 where
+pub record IsTallyOf (c : TurnCell Tally TallyCall TallyReply TallyEntry)
+    (p : Pass Tally TallyEntry) : Type 0 where
   pub cell : IsOf c p
   pub right : IsTallyPast (tally_past (view_of p).seen)
 
@@ -30,7 +31,8 @@ MayAnswer (Finish o) counted = (counted ≡ Yes) ⊎ (counted ≡ No)
 MayAnswer (Stop code) counted = (counted ≡ Yes) ⊎ (counted ≡ No)
 MayAnswer Look counted = counted ≡ No
 
--- The call was made: of all that the pass did its entry alone is new. It is the latest of a past that goes on from what the pass had seen, in which each reply is the one that its call must have
+-- The call was made: of all that the pass did its entry alone is new. It is the latest of a past that goes on
+-- from what the pass had seen, in which each reply is the one that its call must have
 pub record TallyEntered (e : TallyEntry) (v w : View TallyEntry) : Type 0 where
   pub own : entries_of w ≡ entries_of v ++ e ∷ []
   pub counted : MayAnswer e.call e.reply.counted
@@ -42,7 +44,8 @@ pub record TallyEntered (e : TallyEntry) (v w : View TallyEntry) : Type 0 where
   pub met_spent : w.met_spent ≡ v.met_spent
   pub grown : HasGrown v w
 
--- No call was made, since the cell has 2 ^ 62 entries: the pass did what it had done, and has seen what it had seen
+-- No call was made, since the cell has 2 ^ 62 entries: the pass did what it had done, and has seen what it
+-- had seen
 pub record TallySpent (v w : View TallyEntry) : Type 0 where
   pub own : entries_of w ≡ entries_of v
   pub seen : w.seen ≡ v.seen
@@ -56,6 +59,7 @@ HasCalled call v (Done reply) w = TallyEntered (record { call = call; reply = re
 HasCalled call v Spent w = TallySpent v w
 
 -- so by any answer the pass has grown: its seats are the same, and it forgot nothing
-abbrev pub called_grown : (call : TallyCall) (v : View TallyEntry) (r : TallyOut) (w : View TallyEntry) → HasCalled call v r w → HasGrown v w
+abbrev pub called_grown : (call : TallyCall) (v : View TallyEntry) (r : TallyOut) (w : View TallyEntry)
+    → HasCalled call v r w → HasGrown v w
 called_grown call v (Done reply) w e = e.grown
 called_grown call v Spent w e = e.grown

@@ -1,4 +1,5 @@
-//! Calls on the cache of open files, which lies in a turn cell. Each makes one entry of the cache's history or two,
+//! Calls on the cache of open files, which lies in a turn cell. Each makes one entry of the cache's history
+//! or two,
 //! and waits for the turn. Files are looked at and closed outside of it.
 ghost use Rattle.std.specs.Prelude.{◌≡◌, []};
 ghost use Rattle.turn_cell.specs.Calls.{view_of};
@@ -35,7 +36,8 @@ pub fn acquire<R: Wait, F: Files>(
     requires { IsCacheOf cell.now pass.old }
     ensures own { IsCacheOf cell.now pass.new }
     ensures gives { Gives path.now result }
-    ensures cached { HasCached (DidAcquire path.now result (F.told files.old) (F.told files.new)) (acquire_met result) (view_of pass.old) (view_of pass.new) }
+    ensures cached { HasCached (DidAcquire path.now result (F.told files.old) (F.told files.new)) (acquire_met result)
+        (view_of pass.old) (view_of pass.new) }
 {
     fd_cache::acquire(alloc, rt, cell, pass, path, files)
 }
@@ -49,12 +51,14 @@ pub fn release<R: Wait, F: Files>(
 ) -> ReleaseOut
     requires { IsCacheOf cell.now pass.old }
     ensures own { IsCacheOf cell.now pass.new }
-    ensures cached { HasCached (DidRelease lease result) (release_met result) (view_of pass.old) (view_of pass.new) }
+    ensures cached { HasCached (DidRelease lease result) (release_met result)
+        (view_of pass.old) (view_of pass.new) }
 {
     fd_cache::release(rt, cell, pass, lease)
 }
 
-/// Closes what nobody asked for since the last reap. The files are closed once the turn is given back. The basket
+/// Closes what nobody asked for since the last reap. The files are closed once the turn is given back. The
+/// basket
 /// is empty, and comes back so for the next reap.
 pub fn reap_once<R: Wait, F: Files>(
     rt: &R,

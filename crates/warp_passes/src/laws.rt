@@ -1,5 +1,7 @@
-//! What holds of passes that were brought level. Each law is the contract of a function that does nothing when it
-//! runs. They speak of a list of anything that holds a pass of each shared thing, as rows do, by the function to what
+//! What holds of passes that were brought level. Each law is the contract of a function that does nothing
+//! when it
+//! runs. They speak of a list of anything that holds a pass of each shared thing, as rows do, by the function
+//! to what
 //! its pass knows.
 ghost use Rattle.std.specs.Prelude.{◌≡◌, List, ◌∷◌, All, map};
 ghost use Rattle.dispatcher.specs.Stripes.{Each};
@@ -29,13 +31,15 @@ pub fn grown_passes_hold_the_seats<A, L>()
 
 /// Rows that were brought level are level on each cell, and what each row's pass did is what it had done.
 pub fn levelled_rows_are_level<A, L>()
-    ensures level { (known : A → PassView L) (xs ys : List A) → CameLevel known xs ys → ArePassesLevel known ys }
+    ensures level { (known : A → PassView L) (xs ys : List A) →
+        CameLevel known xs ys → ArePassesLevel known ys }
     ensures own { (known : A → PassView L) (xs ys : List A) →
         All (λ x. IsLawfulPass (known x)) xs → All (λ y. IsLawfulPass (known y)) ys →
         OwnIsKept known xs ys → Each OwnsTheSame (map known xs) (map known ys) }
 {}
 
-/// Whatever entries weigh, what the passes did that were brought level weighs together what the histories weigh that
+/// Whatever entries weigh, what the passes did that were brought level weighs together what the histories
+/// weigh that
 /// each of them has seen, and in these each reply is right.
 pub fn level_passes_add_up<A, L>()
     ensures { (known : A → PassView L) (x : A) (xs : List A) →

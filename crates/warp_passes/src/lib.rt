@@ -1,8 +1,11 @@
-//! What all dispatchers of a server share, and the passes that each of them calls it with: the events, the ready
+//! What all dispatchers of a server share, and the passes that each of them calls it with: the events, the
+//! ready
 //! queue, the timeouts, the cache of open files and the tally. A dispatcher owns one pass of each.
 //!
-//! The promise: a call adds its own entries to what its pass did, and nothing else, or nothing where the cell takes
-//! no more calls; and passes that were brought level did together exactly what stands in the histories that each of
+//! The promise: a call adds its own entries to what its pass did, and nothing else, or nothing where the cell
+//! takes
+//! no more calls; and passes that were brought level did together exactly what stands in the histories that
+//! each of
 //! them has seen, whatever an entry weighs.
 #![tactic(auto)]
 

@@ -1,4 +1,5 @@
-//! Rows that hold passes beside other things. They are brought level where they lie, and the other things stay.
+//! Rows that hold passes beside other things. They are brought level where they lie, and the other things
+//! stay.
 ghost use Rattle.std.specs.Prelude.{◌≡◌, ◌∷◌, length, map};
 ghost use Rattle.level.specs.Meanings.{AllAreOf, HoldAllSeats, KeepOwn, AreBroughtLevel};
 ghost use Rattle.level.specs.Gathering.{AreGathered, HaveTold};
@@ -28,10 +29,12 @@ pub trait ShareRow {
         ensures other_rest { meaning.rest to.new ≡ meaning.rest to.old };
 }
 
-/// Brings the passes of all rows to one history of each cell. Each keeps its own entries, and each row what else it
+/// Brings the passes of all rows to one history of each cell. Each keeps its own entries, and each row what
+/// else it
 /// holds.
 ///
-/// It takes no memory, and waits for no turn: what each row's passes had seen is told to the first's, and what the
+/// It takes no memory, and waits for no turn: what each row's passes had seen is told to the first's, and
+/// what the
 /// first's have then seen to each.
 pub fn bring_rows_level<P: ShareRow>(of: &P::Of, rows: &mut [P])
     requires own { AllAreOf P.meaning.passes of.now rows.old }
@@ -54,7 +57,8 @@ fn gather<P: ShareRow>(of: &P::Of, first: &mut P, others: &mut [P])
     ensures own { AllAreOf P.meaning.passes of.now (first.new ∷ others.new) }
     ensures keeps { KeepOwn P.meaning.passes (first.old ∷ others.old) (first.new ∷ others.new) }
     ensures rest { map P.meaning.rest (first.new ∷ others.new) ≡ map P.meaning.rest (first.old ∷ others.old) }
-    ensures gathered { AreGathered P.meaning.passes (first.old ∷ others.old) (length (first.new ∷ others.new)) (first.new ∷ others.new) }
+    ensures gathered { AreGathered P.meaning.passes (first.old ∷ others.old) (length (first.new ∷ others.new))
+        (first.new ∷ others.new) }
 {
     for other in others {
         P::share_row(of, other, first);
@@ -67,7 +71,8 @@ fn spread<P: ShareRow>(of: &P::Of, first: &mut P, others: &mut [P])
     ensures own { AllAreOf P.meaning.passes of.now (first.new ∷ others.new) }
     ensures keeps { KeepOwn P.meaning.passes (first.old ∷ others.old) (first.new ∷ others.new) }
     ensures rest { map P.meaning.rest (first.new ∷ others.new) ≡ map P.meaning.rest (first.old ∷ others.old) }
-    ensures told { HaveTold P.meaning.passes (first.old ∷ others.old) (length (first.new ∷ others.new)) (first.new ∷ others.new) }
+    ensures told { HaveTold P.meaning.passes (first.old ∷ others.old) (length (first.new ∷ others.new))
+        (first.new ∷ others.new) }
 {
     for other in others {
         P::share_row(of, first, other);

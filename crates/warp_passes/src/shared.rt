@@ -48,7 +48,8 @@ impl<J: Load, F: Files> Shared<J, F> {
     ghost use Rattle.warp_passes.specs.Passes.{AreOf, IsFirst, IsPassSplit, pass_view, rest_of};
     ghost use Rattle.warp_passes.specs.Cells.{ArePassesShared};
 
-    /// All things new, and their first pass: it has all seats, has seen nothing and did nothing. All memory that
+    /// All things new, and their first pass: it has all seats, has seen nothing and did nothing. All memory
+    /// that
     /// calls on them ever need is taken here, but that of the cache's paths and of the tally's openings.
     pub fn new(alloc: Global) -> Result<(Shared<J, F>, ServePass<J, F>), AllocError>
         ensures own { IfOk result (λ s. AreOf s.0 s.1) }
@@ -77,7 +78,8 @@ impl<J: Load, F: Files> Shared<J, F> {
         Ok((shared, pass))
     }
 
-    /// A pass that has seen what this one has, did nothing, and has an empty hand. It takes half of this one's
+    /// A pass that has seen what this one has, did nothing, and has an empty hand. It takes half of this
+    /// one's
     /// first class of seats on each cell.
     ///
     /// Its memory is taken before any pass is split, so where there is none this pass is as it was.
@@ -115,14 +117,16 @@ impl<J: Load, F: Files> Shared<J, F> {
         })
     }
 
-    /// Tells `to` what `from` has seen of each cell. It takes no memory, waits for no turn and makes no call. The
+    /// Tells `to` what `from` has seen of each cell. It takes no memory, waits for no turn and makes no call.
+    /// The
     /// passes of the queue and of the timeouts are no cells' and are left alone, and so are the hands.
     pub(crate) fn tell(&self, from: &mut ServePass<J, F>, to: &mut ServePass<J, F>)
         requires from { AreOf self.now from.old }
         requires to { AreOf self.now to.old }
         ensures from { AreOf self.now from.new }
         ensures to { AreOf self.now to.new }
-        ensures shared { ArePassesShared (pass_view from.old) (pass_view to.old) (pass_view from.new) (pass_view to.new) }
+        ensures shared { ArePassesShared (pass_view from.old) (pass_view to.old)
+            (pass_view from.new) (pass_view to.new) }
         ensures rest { rest_of (pass_view from.new) ≡ rest_of (pass_view from.old) }
         ensures other_rest { rest_of (pass_view to.new) ≡ rest_of (pass_view to.old) }
     {

@@ -14,5 +14,5 @@ pub bring_rows_level-requires-clause-seats : goal.bring_rows_level-requires-clau
 bring_rows_level-requires-clause-seats g c =
     subst (SeatsAreOnce (λ row. pass_view row.pass)) (sym c.as_mut_slice.ensures.value)
     (c.moved_passes_hold_the_seats.ensures pass_view (λ row. pass_view row.pass) c.in_ok-shared.passes.items c.in_ok-rows.rows.items
-        (known_rows (λ row. row.pass) pass_view c.in_ok-rows.rows.items c.in_ok-shared.passes.items c.in_ok-rows.ensures)
-        c.in_ok-shared.ensures.new.seats)
+    (known_rows (λ row. row.pass) pass_view c.in_ok-rows.rows.items c.in_ok-shared.passes.items c.in_ok-rows.ensures)
+    c.in_ok-shared.ensures.new.seats)
