@@ -1,0 +1,10 @@
+mod Added
+mod TallyEntries
+mod CacheDeeds
+mod Seen
+mod SameOwn
+mod LevelSums
+mod RowRest
+mod NewPasses
+mod GrownPasses
+mod RowsOfPasses

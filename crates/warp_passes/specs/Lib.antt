@@ -1,0 +1,7 @@
+pub mod Own
+pub mod TallyCalls
+pub mod CacheCalls
+pub mod Passes
+pub mod Cells
+pub mod Levels
+pub mod Rows
