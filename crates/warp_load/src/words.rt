@@ -1,0 +1,52 @@
+//! The words that name a load.
+ghost use Rattle.std.specs.Prelude.{◌≡◌};
+ghost use Rattle.warp_load.specs.LoadWords.{dispatchers_read, load_read, load_shown, number_read};
+
+use crate::load::Load;
+
+/// The most digits of a number.
+const MOST_DIGITS: usize = 10;
+
+/// The most dispatchers.
+const DISPATCHER_LIMIT: u64 = 64;
+
+/// The number that a word is: 1 to 10 decimal digits, the first of which may be zeros, with no sign.
+pub fn number_in(word: &str) -> Option<u64>
+    ensures { result ≡ number_read word.now }
+{
+    let digits = word.as_bytes();
+    if digits.is_empty() || digits.len() > MOST_DIGITS {
+        return None;
+    }
+    let mut number = 0;
+    for digit in digits {
+        if !digit.is_ascii_digit() {
+            return None;
+        }
+        number = 10 * number + (digit - b'0') as u64;
+    }
+    Some(number)
+}
+
+/// The number of dispatchers that a word asks for, 1 to 64.
+pub fn dispatchers_in(word: &str) -> Option<u32>
+    ensures { result ≡ dispatchers_read word.now }
+{
+    let number = number_in(word)?;
+    if (1..=DISPATCHER_LIMIT).contains(&number) {
+        Some(number as u32)
+    } else {
+        None
+    }
+}
+
+/// The load that three words name: its seed, its connections and the requests of each.
+pub fn load_in(seed: &str, connections: &str, requests: &str) -> Option<Load>
+    ensures { load_shown result ≡ load_read seed.now connections.now requests.now }
+{
+    Load::new(
+        number_in(seed)?,
+        number_in(connections)?,
+        number_in(requests)?,
+    )
+}
