@@ -1,0 +1,6 @@
+pub mod CutLemmas
+pub mod CutterLemmas
+pub mod LoadLists
+pub mod ReadLemmas
+pub mod ReplyLemmas
+pub mod TotalLemmas

@@ -43,6 +43,7 @@ impl Cutter {
         }
     }
 
+    #[tactic(auto, unfolding(crate::specs::LoadScripts::piece_length))]
     /// How many bytes the next step brings.
     fn next_length(&self) -> usize
         requires small { IsSmall self.now }
@@ -53,6 +54,7 @@ impl Cutter {
         1 + ((self.seed + self.connection + step) % LONGEST_PIECE) as usize
     }
 
+    #[tactic(auto, unfolding(crate::specs::LoadScripts::piece_allowance))]
     /// How many bytes the next step allows to be written.
     fn next_allowance(&self) -> u32
         requires small { IsSmall self.now }
@@ -93,12 +95,24 @@ impl Cutter {
         ensures few { OnOk result (vec_len self.new.steps ≤ vec_len self.old.steps + 1) }
         ensures short { OnOk result (vec_len self.new.piece < next_length self.new) }
     {
-        if self.piece.is_empty() {
-            self.piece = Vec::with_capacity(self.alloc, self.next_length())?;
-        }
+        self.make_room()?;
         self.piece.extend_from_slice(bytes)?;
         if self.piece.len() == self.next_length() {
             self.close()?;
+        }
+        Ok(())
+    }
+
+    /// Takes memory for the next piece, where no byte of it is there yet.
+    fn make_room(&mut self) -> Result<(), AllocError>
+        requires small { IsSmall self.old }
+        requires few { vec_len self.old.steps < 2 ^ 32 }
+        ensures piece { (self.new.piece.items ≡ self.old.piece.items) × (vec_len self.new.piece ≡ vec_len self.old.piece) }
+        ensures steps { self.new.steps ≡ self.old.steps }
+        ensures same { IsSameCutter self.old self.new }
+    {
+        if self.piece.is_empty() {
+            self.piece = Vec::with_capacity(self.alloc, self.next_length())?;
         }
         Ok(())
     }
@@ -109,7 +123,7 @@ impl Cutter {
         requires few { vec_len self.old.steps < 2 ^ 32 }
         ensures step { OnOk result (map step_shown self.new.steps.items ≡ map step_shown self.old.steps.items
             ++ (self.old.piece.items, piece_allowance self.old.seed self.old.connection (vec_len self.old.steps)) ∷ []) }
-        ensures empty { OnOk result (self.new.piece.items ≡ []) }
+        ensures empty { OnOk result ((self.new.piece.items ≡ []) × (vec_len self.new.piece ≡ 0)) }
         ensures same { IsSameCutter self.old self.new }
         ensures one { OnOk result (vec_len self.new.steps ≡ vec_len self.old.steps + 1) }
     {

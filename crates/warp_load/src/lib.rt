@@ -21,7 +21,7 @@ mod sums;
 pub use folder::{LoadPlace, load_files};
 pub use load::Load;
 pub use request_kind::RequestKind;
-pub use scripts::scripts;
+pub use scripts::load_scripts;
 pub use sums::{Sums, expected};
 pub use words::{dispatchers_in, load_in, number_in};
 

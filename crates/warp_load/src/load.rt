@@ -25,7 +25,7 @@ pub(crate) const REQUEST_LIMIT: u64 = 1000;
 const TOTAL_LIMIT: u64 = 20_000;
 
 impl Load {
-    ghost use Rattle.std.specs.Prelude.{◌≡◌, ◌×◌, ◌↔◌, IfSome, IsSome};
+    ghost use Rattle.std.specs.Prelude.{◌≡◌, ◌↔◌, IfSome, IsSome};
 
     /// The load of these numbers, or none where one of them is out of its range or there are too many requests in all.
     pub fn new(seed: u64, connections: u64, requests: u64) -> Option<Load>

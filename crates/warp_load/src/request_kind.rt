@@ -63,6 +63,7 @@ const POSTED_ANSWER: u64 = 140;
 const BROWSER_ANSWER: u64 = 141;
 
 impl RequestKind {
+    #[tactic(auto, unfolding(crate::specs::Requests::request_kind))]
     /// The kind of a connection's request, both counted from 0, in the load of a seed.
     pub fn of(seed: u64, connection: u64, request: u64) -> RequestKind
         requires small { (seed < 2 ^ 32) × (connection < 2 ^ 32) × (request < 2 ^ 32) }
@@ -80,6 +81,7 @@ impl RequestKind {
         }
     }
 
+    #[tactic(auto, unfolding(crate::specs::Requests::request_bytes))]
     /// Its bytes, head and body.
     pub fn bytes(self) -> &'static [u8]
         ensures bytes { result.now ≡ request_bytes self }
@@ -96,6 +98,7 @@ impl RequestKind {
         }
     }
 
+    #[tactic(auto, unfolding(crate::specs::LoadScripts::answer_length))]
     /// How many bytes its answer has, where that doesn't close the connection.
     pub fn answer_length(self) -> u64
         ensures length { result ≡ answer_length self }

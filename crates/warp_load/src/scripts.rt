@@ -12,7 +12,7 @@ use std::alloc::{AllocError, Global};
 
 /// The script of each of the load's links, in order, as `poller::MemNet::new` takes them. A link's script gives its requests in
 /// pieces of 1 to 61 bytes, each with 1 to 977 bytes more that may be written, and has room for just its answers.
-pub fn scripts(alloc: Global, load: Load) -> Result<Vec<Script>, AllocError>
+pub fn load_scripts(alloc: Global, load: Load) -> Result<Vec<Script>, AllocError>
     // Each script is, piece by piece, that of the load, and has its room.
     ensures scripts { IfOk result (λ scripts. map script_shown scripts.items ≡ load_scripts load.seed load.connections load.requests) }
 

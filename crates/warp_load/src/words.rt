@@ -1,6 +1,6 @@
 //! The words that name a load.
 ghost use Rattle.std.specs.Prelude.{◌≡◌};
-ghost use Rattle.warp_load.specs.LoadWords.{dispatchers_read, load_read, load_shown, number_read};
+ghost use Rattle.warp_load.specs.LoadWords.{dispatchers_read, is_number, load_read, load_shown, number_read};
 
 use crate::load::Load;
 
@@ -10,22 +10,24 @@ const MOST_DIGITS: usize = 10;
 /// The most dispatchers.
 const DISPATCHER_LIMIT: u64 = 64;
 
+/// Whether a word is a number: 1 to 10 decimal digits, the first of which may be zeros, with no sign.
+fn is_number(word: &str) -> bool
+    ensures { result ≡ is_number word.now }
+{
+    !word.is_empty()
+        && word.len() <= MOST_DIGITS
+        && word.as_bytes().iter().all(|b| b.is_ascii_digit())
+}
+
 /// The number that a word is: 1 to 10 decimal digits, the first of which may be zeros, with no sign.
 pub fn number_in(word: &str) -> Option<u64>
     ensures { result ≡ number_read word.now }
 {
-    let digits = word.as_bytes();
-    if digits.is_empty() || digits.len() > MOST_DIGITS {
-        return None;
+    if is_number(word) {
+        word.parse().ok()
+    } else {
+        None
     }
-    let mut number = 0;
-    for digit in digits {
-        if !digit.is_ascii_digit() {
-            return None;
-        }
-        number = 10 * number + (digit - b'0') as u64;
-    }
-    Some(number)
 }
 
 /// The number of dispatchers that a word asks for, 1 to 64.
