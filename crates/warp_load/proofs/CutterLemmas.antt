@@ -1,10 +1,18 @@
 -- How a cutter goes on and ends.
-use Rattle.std.proofs.Common.{◌≡◌, ℕ, ◌+◌, ◌<◌, ◌≤◌, List, [], ◌∷◌, ◌++◌, length, map, vec_len, refl, sym, ap, ◌∙◌, subst, arith, append-nil, append_assoc}
+use Rattle.std.proofs.Common.{◌≡◌, ℕ, ◌+◌, ◌<◌, ◌≤◌, ◌==◌, true, false, List, [], ◌∷◌, ◌++◌, length, map, vec_len, refl, sym, ap, ◌∙◌, subst, arith, append-nil, append_assoc}
+use Rattle.std.proofs.lemmas.Bool.Decides.{nat_tests}
 use Rattle.poller.specs.declared.script.ScriptStep.{ScriptStep}
 use Rattle.warp_load.specs.declared.cutter.Cutter.{Cutter}
 use Rattle.warp_load.specs.Cutting.{IsCut, IsSameCutter, next_length}
 use Rattle.warp_load.specs.LoadScripts.{piece_length, piece_allowance, step_shown, steps_for}
 use Rattle.warp_load.proofs.CutLemmas.{piece_length-pos, steps_for-nil, steps_for-full, steps_for-last}
+
+-- what a test for emptiness says
+pub zero_of : (n : ℕ) → true ≡ (n == 0) → n ≡ 0
+zero_of n test = grind (arith, nat_tests)
+
+pub pos_of : (n : ℕ) → false ≡ (n == 0) → 0 < n
+pos_of n test = grind (arith, nat_tests)
 
 none_at : (seed i k : ℕ) (steps : List ScriptStep) (piece later : List ℕ) → steps ≡ [] → k ≡ 0 → piece ≡ []
     → steps_for seed i 0 later ≡ map step_shown steps ++ steps_for seed i k (piece ++ later)

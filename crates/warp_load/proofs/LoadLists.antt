@@ -1,12 +1,12 @@
 -- Lists over the numbers of connections and requests: one more of them, and what all scripts have.
-use Rattle.std.proofs.Common.{◌≡◌, ℕ, zero, suc, ◌+◌, ◌*◌, ◌<◌, ◌≤◌, ◌^◌, List, [], ◌∷◌, ◌++◌, length, map, refl, sym, ap, ◌∙◌, subst, arith, add-one, zero-add, append-nil, lit<, lit≤, length-append}
+use Rattle.std.proofs.Common.{◌≡◌, ℕ, zero, suc, ◌+◌, ◌*◌, ◌<◌, ◌≤◌, ◌^◌, List, [], ◌∷◌, ◌++◌, length, map, refl, sym, ap, ◌∙◌, subst, arith, add-one, zero-add, zero-mul, suc-mul, add_comm, append-nil, lit<, lit≤, length-append}
 use Rattle.std.specs.Prelude.{All, sum_by}
 use Rattle.std.specs.List.{flat_map, range_with_len}
 use Rattle.std.proofs.lemmas.Grind.{flat_map-append}
 use Rattle.std.proofs.lemmas.List.{length-map, map-append}
 use Rattle.std.proofs.lemmas.List.Elements.{All-nil, All-cons}
 use Rattle.std.proofs.lemmas.List.FromFn.{length-map-range_with_len}
-use Rattle.std.proofs.lemmas.List.Sums.{sum_by-append}
+use Rattle.std.proofs.lemmas.List.Sums.{sum_by-append, sum_by-cons}
 use Rattle.outside.specs.ListenCauses.{Plan}
 use Rattle.poller.specs.declared.script.Script.{Script}
 use Rattle.poller.specs.Scripts.{plans_from, pieces_in, AreScripts}
@@ -32,6 +32,23 @@ numbers_next n =
 
 pub map_next : {X : Type 0} (f : ℕ → X) (n : ℕ) → map f (range_with_len 0 (n + 1)) ≡ map f (range_with_len 0 n) ++ f n ∷ []
 map_next {X} f n = ap (λ (ns : List ℕ). map f ns) (numbers_next n) ∙ map-append f (range_with_len 0 n) (n ∷ [])
+
+pub sum_next : (f : ℕ → ℕ) (n : ℕ) → sum_by f (range_with_len 0 (n + 1)) ≡ sum_by f (range_with_len 0 n) + f n
+sum_next f n =
+    ap (λ (ns : List ℕ). sum_by f ns) (numbers_next n)
+    ∙ sum_by-append f (range_with_len 0 n) (n ∷ [])
+    ∙ ap (λ (m : ℕ). sum_by f (range_with_len 0 n) + m) (zero-add (f n))
+
+pub sum_same : (r a n : ℕ) → sum_by (λ i. r) (range_with_len a n) ≡ n * r
+sum_same r a zero = sym (zero-mul r)
+sum_same r a (suc n) =
+    let later = sum_same r (a + 1) n in
+    sum_by-cons (λ i. r) a (range_with_len (a + 1) n) ∙ ap (λ (m : ℕ). r + m) later ∙ add_comm r (n * r) ∙ sym (suc-mul n r)
+
+-- no request
+pub input_none : (seed i : ℕ) → load_input seed 0 i ≡ []
+unfolding load_input
+input_none seed i = refl
 
 -- one request more
 pub input_next : (seed n i : ℕ) → load_input seed (n + 1) i ≡ load_input seed n i ++ request_bytes (request_kind seed i n)

@@ -1,6 +1,6 @@
 -- What all answers to a connection of the load add up to.
-use Rattle.std.proofs.Common.{◌≡◌, ℕ, zero, suc, ◌+◌, ◌*◌, ◌<◌, ◌≤◌, Bool, true, false, ◌==◌, List, [], ◌∷◌, ◌++◌, length, map, drop, replicate, refl, sym, ap, ◌∙◌, subst, arith, length-append, append-nil}
-use Rattle.std.specs.Prelude.{if◌then◌else◌, sum_by}
+use Rattle.std.proofs.Common.{◌≡◌, ℕ, zero, suc, ◌+◌, ◌*◌, ◌<◌, ◌≤◌, Bool, true, false, ◌==◌, List, [], ◌∷◌, ◌++◌, length, map, drop, replicate, refl, sym, ap, ◌∙◌, subst, arith, length-append, append-nil, add-zero, eq-or-lt_of_le, inl, inr}
+use Rattle.std.specs.Prelude.{if◌then◌else◌, ◌⊎◌, sum_by}
 use Rattle.std.specs.List.{flat_map, range_with_len}
 use Rattle.std.proofs.lemmas.Bool.Decides.{nat_tests}
 use Rattle.std.proofs.Math.Seq.{drop-append_seam}
@@ -131,3 +131,28 @@ module _ (head_stays : (s : List ℕ) → StaysSettled s) (body_stays : (framing
   finals_are (k ∷ (j ∷ ks)) (suc zero) few = absurd (omega (arith, few))
   finals_are (k ∷ ks) (suc (suc left)) few =
       finals_next k (flat_map request_bytes ks) (suc left) ∙ rw (closes_no k (suc left) (omega arith)) (let again = finals_are ks (suc left) (omega (arith, few)) in omega (arith, again))
+
+  -- each request of a connection gets a final answer
+  pub finals_load : (seed requests i : ℕ) → requests ≤ 1000 → finals_of (load_input seed requests i) ≡ requests
+  unfolding load_input
+  finals_load seed requests i fits =
+      let kinds = request_kinds seed requests i in
+      let count : length kinds ≡ requests = length-map-range_with_len (λ j. request_kind seed i j) 0 requests in
+      finals_are kinds 1000 (omega (arith, count, fits)) ∙ count
+
+  length_by : (seed requests i : ℕ) → (requests ≡ 1000) ⊎ (requests < 1000) → length (load_answers seed requests i) ≡ load_room seed requests i
+  unfolding load_answers load_room load_input
+  length_by seed requests i (inl full) =
+      let kinds = request_kinds seed requests i in
+      let count : length kinds ≡ requests = length-map-range_with_len (λ j. request_kind seed i j) 0 requests in
+      let closes : closing_length requests ≡ 19 = let test : (requests == 1000) ≡ true = grind (arith, nat_tests) in rw test refl in
+      length_full kinds 1000 (count ∙ full) (omega arith) ∙ ap (λ (n : ℕ). n + 19) (lengths_sum kinds) ∙ ap (λ (n : ℕ). sum_by answer_length kinds + n) (sym closes)
+  length_by seed requests i (inr fewer) =
+      let kinds = request_kinds seed requests i in
+      let count : length kinds ≡ requests = length-map-range_with_len (λ j. request_kind seed i j) 0 requests in
+      let closes : closing_length requests ≡ 0 = let test : (requests == 1000) ≡ false = grind (arith, nat_tests) in rw test refl in
+      length_fewer kinds 1000 (omega (arith, count, fewer)) ∙ lengths_sum kinds ∙ sym (ap (λ (n : ℕ). sum_by answer_length kinds + n) closes ∙ add-zero (sum_by answer_length kinds))
+
+  -- the answers to a connection have just the bytes for which its script has room
+  pub length_load : (seed requests i : ℕ) → requests ≤ 1000 → length (load_answers seed requests i) ≡ load_room seed requests i
+  length_load seed requests i fits = length_by seed requests i (eq-or-lt_of_le fits)

@@ -1,6 +1,7 @@
 -- To be believed: the folder of the load, four files.
-use Rattle.std.specs.Prelude.{ℕ, ◌+◌, ◌%◌, List, [], ◌∷◌, codes, map}
+use Rattle.std.specs.Prelude.{ℕ, ◌+◌, ◌%◌, List, [], ◌∷◌, codes, map, string_bytes}
 use Rattle.std.specs.List.{range_with_len}
+use Rattle.outside.specs.declared.mem_files.MemFile.{MemFile}
 use Rattle.outside.specs.Folder.{Content, Folder, folder_of}
 
 -- when each file was changed last, and each moment of the clock: 1994-11-06 08:49:37 UTC
@@ -23,3 +24,7 @@ load_entries =
 -- the folder that has these files
 unfoldable pub load_folder : Folder
 load_folder = folder_of load_entries
+
+-- a file with its path
+abbrev pub file_shown : MemFile → List ℕ × Content
+file_shown file = (string_bytes file.path, (file.bytes.items, file.mtime))

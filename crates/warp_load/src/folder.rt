@@ -1,7 +1,7 @@
 //! The folder of the load, and its files in memory.
-ghost use Rattle.std.specs.Prelude.{◌≡◌, ◌+◌, ◌<◌, ◌≤◌, IfOk, string_bytes};
+ghost use Rattle.std.specs.Prelude.{◌≡◌, ◌+◌, ◌<◌, ◌≤◌, ◌++◌, ◌∷◌, [], IfOk, OnOk, map};
 ghost use Rattle.outside.specs.MemFolder.{folder_in};
-ghost use Rattle.warp_load.specs.LoadFolder.{load_folder, load_moment, rounds};
+ghost use Rattle.warp_load.specs.LoadFolder.{file_shown, load_folder, load_moment, rounds};
 
 use outside::{MemFile, Place};
 use std::alloc::{AllocError, Global};
@@ -23,23 +23,28 @@ pub fn load_files(alloc: Global) -> Result<Vec<MemFile>, AllocError>
     ensures folder { IfOk result (λ files. folder_in files.items ≡ load_folder) }
 {
     let mut files = Vec::with_capacity(alloc, 4)?;
-    files.push(file(alloc, "index.html", Vec::from_slice(alloc, b"hi\n")?)?)?;
-    files.push(file(alloc, "a.txt", rounds_of(alloc, 1000, b'a', 26)?)?)?;
-    files.push(file(alloc, "big.bin", rounds_of(alloc, 40_000, 0, 251)?)?)?;
-    files.push(file(alloc, "sub/index.html", Vec::from_slice(alloc, b"sub\n")?)?)?;
+    add_file(alloc, &mut files, "index.html", Vec::from_slice(alloc, b"hi\n")?)?;
+    add_file(alloc, &mut files, "a.txt", rounds_of(alloc, 1000, b'a', 26)?)?;
+    add_file(alloc, &mut files, "big.bin", rounds_of(alloc, 40_000, 0, 251)?)?;
+    add_file(alloc, &mut files, "sub/index.html", Vec::from_slice(alloc, b"sub\n")?)?;
     Ok(files)
 }
 
-/// A file of the load.
-fn file(alloc: Global, path: &str, bytes: Vec<u8>) -> Result<MemFile, AllocError>
-    ensures path { IfOk result (λ file. string_bytes file.path ≡ path.now) }
-    ensures content { IfOk result (λ file. (file.bytes.items ≡ bytes.items) × (file.mtime ≡ load_moment)) }
+/// Adds a file at a path.
+fn add_file(
+    alloc: Global,
+    files: &mut Vec<MemFile>,
+    path: &str,
+    bytes: Vec<u8>,
+) -> Result<(), AllocError>
+    ensures added { OnOk result (map file_shown files.new.items ≡ map file_shown files.old.items ++ (path.now, (bytes.items, load_moment)) ∷ []) }
 {
-    Ok(MemFile {
+    files.push(MemFile {
         path: String::from_str(alloc, path)?,
         bytes,
         mtime: LOAD_MOMENT,
-    })
+    })?;
+    Ok(())
 }
 
 /// So many bytes, which go round from one on.

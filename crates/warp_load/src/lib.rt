@@ -15,10 +15,12 @@ mod request_kind;
 
 // How its links give it piece by piece, and what the answers add up to.
 mod cutter;
+mod laws;
 mod scripts;
 mod sums;
 
 pub use folder::{LoadPlace, load_files};
+pub use laws::{answers_fill_the_room, each_request_is_answered};
 pub use load::Load;
 pub use request_kind::RequestKind;
 pub use scripts::load_scripts;

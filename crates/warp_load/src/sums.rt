@@ -3,6 +3,7 @@ ghost use Rattle.std.specs.Prelude.{◌≡◌, ◌<◌, ◌≤◌, ◌+◌, ◌*
 ghost use Rattle.warp_load.specs.LoadScripts.{load_room};
 ghost use Rattle.warp_load.specs.LoadTotals.{load_total};
 
+use crate::laws::{answers_fill_the_room, each_request_is_answered};
 use crate::load::{Load, REQUEST_LIMIT};
 use crate::request_kind::RequestKind;
 
@@ -20,6 +21,9 @@ pub struct Sums {
 pub fn expected(load: Load) -> Sums
     ensures { (result.requests, result.bytes) ≡ load_total load.seed load.connections load.requests }
 {
+    // The laws that tie the table of lengths to the answers.
+    each_request_is_answered();
+    answers_fill_the_room();
     let mut bytes = 0;
     for connection in 0..load.connections {
         bytes += room(&load, connection);

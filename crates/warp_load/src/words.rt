@@ -1,5 +1,7 @@
 //! The words that name a load.
 ghost use Rattle.std.specs.Prelude.{◌≡◌};
+ghost use Rattle.std.specs.Char.{is_ascii_digit};
+ghost use Rattle.std.specs.List.{list_all};
 ghost use Rattle.warp_load.specs.LoadWords.{dispatchers_read, is_number, load_read, load_shown, number_read};
 
 use crate::load::Load;
@@ -10,15 +12,21 @@ const MOST_DIGITS: usize = 10;
 /// The most dispatchers.
 const DISPATCHER_LIMIT: u64 = 64;
 
-/// Whether a word is a number: 1 to 10 decimal digits, the first of which may be zeros, with no sign.
+/// Whether each byte is a decimal digit.
+fn are_digits(word: &[u8]) -> bool
+    ensures { result ≡ list_all is_ascii_digit word.now }
+{
+    word.iter().all(|b| b.is_ascii_digit())
+}
+
+/// Whether a word is 1 to 10 decimal digits.
 fn is_number(word: &str) -> bool
     ensures { result ≡ is_number word.now }
 {
-    !word.is_empty()
-        && word.len() <= MOST_DIGITS
-        && word.as_bytes().iter().all(|b| b.is_ascii_digit())
+    (1..=MOST_DIGITS).contains(&word.len()) && are_digits(word.as_bytes())
 }
 
+#[tactic(auto, unfolding(crate::specs::LoadWords::number_read))]
 /// The number that a word is: 1 to 10 decimal digits, the first of which may be zeros, with no sign.
 pub fn number_in(word: &str) -> Option<u64>
     ensures { result ≡ number_read word.now }
@@ -30,6 +38,7 @@ pub fn number_in(word: &str) -> Option<u64>
     }
 }
 
+#[tactic(auto, unfolding(crate::specs::LoadWords::dispatchers_read))]
 /// The number of dispatchers that a word asks for, 1 to 64.
 pub fn dispatchers_in(word: &str) -> Option<u32>
     ensures { result ≡ dispatchers_read word.now }
@@ -42,6 +51,7 @@ pub fn dispatchers_in(word: &str) -> Option<u32>
     }
 }
 
+#[tactic(auto, unfolding(crate::specs::LoadWords::load_read))]
 /// The load that three words name: its seed, its connections and the requests of each.
 pub fn load_in(seed: &str, connections: &str, requests: &str) -> Option<Load>
     ensures { load_shown result ≡ load_read seed.now connections.now requests.now }

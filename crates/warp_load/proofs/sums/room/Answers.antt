@@ -1,10 +1,16 @@
 use Rattle.std.proofs.Common.{◌≡◌, ℕ, ◌+◌, ap, sym, ◌∙◌, arith}
-use Rattle.warp_load.specs.LoadScripts.{answer_length, load_room}
+use Rattle.std.specs.Prelude.{sum_by}
+use Rattle.warp_load.specs.LoadScripts.{answer_length, closing_length, load_room}
+use Rattle.warp_load.specs.Requests.{request_kinds}
 use Rattle.warp_load.proofs.LoadLists.{answer_length-le, lengths_next}
+use Rattle.warp_load.proofs.RangeLemmas.{ranges}
 use Rattle.warp_load.proofs.sums.room.Goals as goal
 
 pub overflow_add-bytes : goal.overflow_add-bytes
-overflow_add-bytes c = ?
+overflow_add-bytes c =
+    let load = c.args.load.now in
+    let few = (ranges load.seed load.connections load.requests load.in_range).requests_fit in
+    omega (arith, few, c.loop-request.invariant.most, c.answer_length-bytes.ensures.length, answer_length-le c.of.result)
 
 pub loop-request-preserved : goal.loop-request-preserved
 loop-request-preserved c =
@@ -18,4 +24,7 @@ loop-request-preserved c =
 
 pub returns-clause-room : goal.returns-clause-room
 unfolding load_room
-returns-clause-room c = ?
+returns-clause-room c =
+    let load = c.args.load.now in
+    let all : c.loop-request.request ≡ load.requests = omega arith in
+    c.loop-request.invariant.counted ∙ ap (λ (n : ℕ). sum_by answer_length (request_kinds load.seed n c.args.connection) + closing_length load.requests) all

@@ -1,6 +1,7 @@
 use Rattle.std.proofs.Common.{◌≡◌, ℕ, ◌+◌, ◌≤◌, ◌++◌, [], List, length, take, drop, ap, sym, subst, ◌∙◌, arith, append_assoc, append-nil}
 use Rattle.std.proofs.lemmas.List.{take-append-drop, nil_from_length}
 use Rattle.warp_load.specs.Cutting.{IsCut}
+use Rattle.warp_load.proofs.CutterLemmas.{pos_of, zero_of}
 use Rattle.warp_load.proofs.cutter.Cutter.add.Goals as goal
 
 pub loop-rest-preserved : goal.loop-rest-preserved
@@ -22,13 +23,13 @@ loop-rest-preserved c =
         seed = c.fill.ensures.same.seed ∙ inv.same.seed;
         connection = c.fill.ensures.same.connection ∙ inv.same.connection;
       };
-      few = omega (arith, c.in_ok-fill.ensures.few, c.split_at.ensures.back_len, c.loop-rest-test.ensures);
+      few = omega (arith, c.in_ok-fill.ensures.few, c.split_at.ensures.back_len, pos_of (length c.loop-rest.rest.now) c.loop-rest-test.ensures);
       short = c.in_ok-fill.ensures.short;
     }
 
 pub returns-clause-cut : goal.returns-clause-cut
 returns-clause-cut c front before =
     let so_far = c.loop-rest.invariant.cut front before in
-    let none : c.loop-rest.rest.now ≡ [] = nil_from_length _ (let h = c.loop-rest-test.ensures in let g = c.loop-rest-test.false in ?) in
+    let none : c.loop-rest.rest.now ≡ [] = nil_from_length _ (zero_of (length c.loop-rest.rest.now) c.loop-rest-test.ensures) in
     let all : so_far.0 ≡ c.args.bytes.now = sym (so_far.1 ∙ ap (λ (t : List ℕ). so_far.0 ++ t) none ∙ append-nil so_far.0) in
     subst (λ (t : List ℕ). IsCut c.loop-rest.self (front ++ t)) all so_far.2
