@@ -12,7 +12,7 @@ use Rattle.warp_request.specs.Laws.{StaysSettled}
 use Rattle.warp_response.specs.declared.response.LastWord.{LastWord}
 use Rattle.warp_response.specs.declared.response.LastWord.TheVariants.{Nothing, Close}
 use Rattle.warp_response.specs.Text.{answer_text}
-use Rattle.conn_loop.specs.Answers.{closes, last_word, answers_at, answers_within, finals_at, finals_within, finals_of}
+use Rattle.conn_loop.specs.Answers.{closes, last_word, answers_at, answers_within, finals_at, finals_within, finals_of, rest_at, rest_within, rest_of}
 use Rattle.conn_loop.specs.Replying.{Replying, folder_replies}
 use Rattle.conn_loop.specs.Turns.{Turn, turn_of, interim_of}
 use Rattle.warp_load.specs.declared.request_kind.RequestKind.{RequestKind}
@@ -131,6 +131,34 @@ module _ (head_stays : (s : List ℕ) → StaysSettled s) (body_stays : (framing
   finals_are (k ∷ (j ∷ ks)) (suc zero) few = absurd (omega (arith, few))
   finals_are (k ∷ ks) (suc (suc left)) few =
       finals_next k (flat_map request_bytes ks) (suc left) ∙ rw (closes_no k (suc left) (omega arith)) (let again = finals_are ks (suc left) (omega (arith, few)) in omega (arith, again))
+
+  rest_next : (k : RequestKind) (rest : List ℕ) (left : ℕ) → rest_within (suc left) (request_bytes k ++ rest) ≡ (if closes (asked_by k) left then rest else rest_within left rest)
+  unfolding rest_within rest_at
+  rest_next k rest left =
+      let s = request_bytes k ++ rest in
+      ap (λ (v : Turn). rest_at s v left (λ len. rest_within left (drop len s))) (turn_is head_stays body_stays k rest)
+      ∙ ap (λ (t : List ℕ). if closes (asked_by k) left then t else rest_within left t) (drop-append_seam (request_bytes k) rest)
+
+  nothing_left : (left : ℕ) → rest_within left [] ≡ []
+  unfolding rest_within rest_at
+  nothing_left zero = refl
+  nothing_left (suc left) = rw nothing_is refl
+
+  pub rest_none : (ks : List RequestKind) (left : ℕ) → length ks ≤ left → rest_within left (flat_map request_bytes ks) ≡ []
+  rest_none [] left few = nothing_left left
+  rest_none (k ∷ ks) zero few = absurd (omega (arith, few))
+  rest_none (k ∷ []) (suc zero) few = rest_next k [] 0 ∙ rw (closes_last k) refl
+  rest_none (k ∷ (j ∷ ks)) (suc zero) few = absurd (omega (arith, few))
+  rest_none (k ∷ ks) (suc (suc left)) few =
+      rest_next k (flat_map request_bytes ks) (suc left) ∙ rw (closes_no k (suc left) (omega arith)) (rest_none ks (suc left) (omega (arith, few)))
+
+  -- no byte of a connection's input is behind its requests
+  pub rest_load : (seed requests i : ℕ) → requests ≤ 1000 → rest_of (load_input seed requests i) ≡ []
+  unfolding load_input
+  rest_load seed requests i fits =
+      let kinds = request_kinds seed requests i in
+      let count : length kinds ≡ requests = length-map-range_with_len (λ j. request_kind seed i j) 0 requests in
+      rest_none kinds 1000 (omega (arith, count, fits))
 
   -- each request of a connection gets a final answer
   pub finals_load : (seed requests i : ℕ) → requests ≤ 1000 → finals_of (load_input seed requests i) ≡ requests

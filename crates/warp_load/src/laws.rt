@@ -1,15 +1,16 @@
 //! What holds of the load as it is defined, whatever serves it. Each law is the contract of a function that does nothing.
-ghost use Rattle.std.specs.Prelude.{◌≡◌, ◌≤◌, ℕ, length};
-ghost use Rattle.conn_loop.specs.Answers.{finals_of};
+ghost use Rattle.std.specs.Prelude.{◌≡◌, ◌≤◌, [], ℕ, length};
+ghost use Rattle.conn_loop.specs.Answers.{finals_of, rest_of};
 ghost use Rattle.warp_load.specs.LoadScripts.{load_room};
 ghost use Rattle.warp_load.specs.LoadTotals.{load_answers};
 ghost use Rattle.warp_load.specs.Requests.{load_input};
 
 use warp_request::{a_settled_body_stays, a_settled_head_stays};
 
-/// A connection's input calls for as many final answers as it makes requests.
+/// A connection's input calls for as many final answers as it makes requests, and no byte of it is left behind them.
 pub fn each_request_is_answered()
-    ensures { (seed requests i : ℕ) → requests ≤ 1000 → finals_of (load_input seed requests i) ≡ requests }
+    ensures rest { (seed requests i : ℕ) → requests ≤ 1000 → rest_of (load_input seed requests i) ≡ [] }
+    ensures finals { (seed requests i : ℕ) → requests ≤ 1000 → finals_of (load_input seed requests i) ≡ requests }
 {
     a_settled_head_stays();
     a_settled_body_stays();

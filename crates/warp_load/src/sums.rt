@@ -1,5 +1,5 @@
 //! What serving the load adds up to.
-ghost use Rattle.std.specs.Prelude.{◌≡◌, ◌<◌, ◌≤◌, ◌+◌, ◌*◌};
+ghost use Rattle.std.specs.Prelude.{◌≡◌, ◌<◌, ◌≤◌, ◌+◌, ◌*◌, ◌^◌};
 ghost use Rattle.warp_load.specs.LoadScripts.{load_room};
 ghost use Rattle.warp_load.specs.LoadTotals.{load_total};
 
@@ -19,7 +19,11 @@ pub struct Sums {
 
 /// What serving the load adds up to, by any number of dispatchers.
 pub fn expected(load: Load) -> Sums
-    ensures { (result.requests, result.bytes) ≡ load_total load.seed load.connections load.requests }
+    // They are those of the definition, which has the answers themselves.
+    ensures total { (result.requests, result.bytes) ≡ load_total load.seed load.connections load.requests }
+
+    // Both are far from what a number holds.
+    ensures small { (result.requests ≤ 20000) × (result.bytes < 2 ^ 38) }
 {
     // The laws that tie the table of lengths to the answers.
     each_request_is_answered();
