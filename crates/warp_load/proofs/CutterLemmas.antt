@@ -1,5 +1,5 @@
 -- How a cutter goes on and ends.
-use Rattle.std.proofs.Common.{◌≡◌, ℕ, ◌+◌, ◌<◌, ◌≤◌, ◌==◌, true, false, List, [], ◌∷◌, ◌++◌, length, map, vec_len, refl, sym, ap, ◌∙◌, subst, arith, append-nil, append_assoc}
+use Rattle.std.proofs.Common.{◌≡◌, ℕ, ◌+◌, ◌<◌, ◌==◌, true, false, List, [], ◌∷◌, ◌++◌, length, map, vec_len, refl, sym, ap, ◌∙◌, arith, append-nil, append_assoc}
 use Rattle.std.proofs.lemmas.Bool.Decides.{nat_tests}
 use Rattle.poller.specs.declared.script.ScriptStep.{ScriptStep}
 use Rattle.warp_load.specs.declared.cutter.Cutter.{Cutter}
@@ -45,10 +45,10 @@ pub cut_step : (old new : Cutter) (front bytes : List ℕ) → IsSameCutter old 
 cut_step old new front bytes same long more empty none one cut = record {
   short = omega (arith, none, piece_length-pos new.seed new.connection (vec_len new.steps));
   goes_on = λ later.
-    let goes = full old.seed old.connection (vec_len old.steps) (map step_shown old.steps.items) (map step_shown new.steps.items) front old.piece.items bytes later cut.goes_on long more in
-    let seeds = same.seed in
-    let connections = same.connection in
-    rw (seeds, connections, one, empty) goes;
+      let goes = full old.seed old.connection (vec_len old.steps) (map step_shown old.steps.items) (map step_shown new.steps.items) front old.piece.items bytes later cut.goes_on long more in
+      let seeds = same.seed in
+      let connections = same.connection in
+      rw (seeds, connections, one, empty) goes;
 }
 
 -- all is cut, and no piece is left

@@ -1,5 +1,5 @@
 -- What each request of the load is to a server: a head that it reads, and a request that is whole.
-use Rattle.std.proofs.Common.{◌≡◌, ◌≢◌, ℕ, zero, suc, ◌+◌, ◌<◌, ◌≤◌, Bool, true, false, List, [], ◌∷◌, ◌++◌, length, take, drop, map, codes, refl, sym, ap, ◌∙◌, subst, arith, append-nil, lit<, lit≤, IsUtf8}
+use Rattle.std.proofs.Common.{◌≡◌, ℕ, ◌<◌, ◌≤◌, Bool, true, false, List, [], ◌∷◌, ◌++◌, length, drop, map, codes, refl, sym, ap, ◌∙◌, subst, arith, append-nil, lit≤}
 use Rattle.std.specs.Prelude.{if◌then◌else◌, not, ◌&&◌, nat_lt, All, slice_index_or}
 use Rattle.std.proofs.lemmas.Bool.{and_parts}
 use Rattle.std.proofs.lemmas.Bool.Decides.{nat_tests}
@@ -10,7 +10,7 @@ use Rattle.std.proofs.lemmas.List.Elements.{All-nil, All-cons}
 use Rattle.std.proofs.lemmas.List.Sums.{AllPass-from_list_all}
 use Rattle.std.proofs.lemmas.Str.{IsUtf8-from_is_utf8, is_utf8-from_IsUtf8, IsUtf8-from_ascii}
 use Rattle.std.proofs.lemmas.Str.Ascii.{IsAscii-from_all}
-use Rattle.httparse.specs.Grammar.{RequestHead, Field, IsField, IsRequestHead, ReadsRequest, crlf, is_token_byte, is_uri_byte, is_value_byte, print_request}
+use Rattle.httparse.specs.Grammar.{RequestHead, Field, IsField, IsRequestHead, ReadsRequest, crlf, is_token_byte, is_uri_byte, is_value_byte}
 use Rattle.httparse.proofs.GrammarLemmas.{request_unique}
 use Rattle.httparse.proofs.OnLiterals.{httparse_on_literals}
 use Rattle.path_rules.specs.Target.{behind_scheme, form_of}
@@ -27,7 +27,7 @@ use Rattle.warp_request.specs.Content.{codings_of, ends_in_chunked, framing_of, 
 use Rattle.warp_request.specs.Fields.{values_of, members_of, has_word, has_member, is_host_byte, is_host_fault, stays_open}
 use Rattle.warp_request.specs.Laws.{StaysSettled}
 use Rattle.warp_request.specs.Lines.{skip_empty, has_line, lines_from, ends_in_version, is_field_line, are_lines_right, breaks_line_rule}
-use Rattle.warp_request.specs.Next.{window_of, waits, by_beginning, next_of}
+use Rattle.warp_request.specs.Next.{waits, by_beginning, next_of}
 use Rattle.warp_request.specs.Target.{is_target_form}
 use Rattle.warp_request.specs.Verdict.{Verdict, Asked, refused, asked}
 use Rattle.conn_loop.specs.Turns.{Turn, turn_of, turn_by_head, turn_by_body, interim_of, interim_by}

@@ -1,5 +1,5 @@
 -- What is replied to each request of the load, and how long its answer is.
-use Rattle.std.proofs.Common.{◌≡◌, ℕ, zero, suc, ◌+◌, ◌%◌, ◌≤◌, Bool, true, false, List, [], ◌∷◌, ◌++◌, Option, Some, None, length, map, codes, refl, sym, ap, ◌∙◌, arith, length-append}
+use Rattle.std.proofs.Common.{◌≡◌, ℕ, ◌+◌, ◌%◌, true, false, List, [], ◌++◌, Some, None, length, codes, refl, ◌∙◌, arith, length-append}
 use Rattle.std.specs.Fmt.{digits}
 use Rattle.std.specs.FinMap.{find, get-from_entries}
 use Rattle.std.specs.Ordering.{nat_cmp}
@@ -7,7 +7,7 @@ use Rattle.std.specs.Cmp.Lexicographic.{slice_cmp, nat_list_cmp_total}
 use Rattle.std.proofs.lemmas.List.FromFn.{length-map-range_with_len}
 use Rattle.percent_encoding.specs.Percent.{percent_decode}
 use Rattle.outside.specs.Folder.{Content, file_at}
-use Rattle.path_rules.specs.Target.{behind_scheme, form_of, raw_path_of, query_of}
+use Rattle.path_rules.specs.Target.{form_of, raw_path_of, query_of}
 use Rattle.path_rules.specs.Route.{RouteOf, is_name, can_be_served, route_in, route_of}
 use Rattle.path_rules.specs.Route as routed
 use Rattle.path_rules.specs.ContentType.{kind_of_ending, content_type_of}

@@ -1,7 +1,7 @@
 -- What all answers to a connection of the load add up to.
-use Rattle.std.proofs.Common.{◌≡◌, ℕ, zero, suc, ◌+◌, ◌*◌, ◌<◌, ◌≤◌, Bool, true, false, ◌==◌, List, [], ◌∷◌, ◌++◌, length, map, drop, replicate, refl, sym, ap, ◌∙◌, subst, arith, length-append, append-nil, add-zero, eq-or-lt_of_le, inl, inr}
+use Rattle.std.proofs.Common.{◌≡◌, ℕ, zero, suc, ◌+◌, ◌<◌, ◌≤◌, true, false, ◌==◌, List, [], ◌∷◌, ◌++◌, length, drop, replicate, refl, sym, ap, ◌∙◌, arith, length-append, append-nil, add-zero, eq-or-lt_of_le, inl, inr}
 use Rattle.std.specs.Prelude.{if◌then◌else◌, ◌⊎◌, sum_by}
-use Rattle.std.specs.List.{flat_map, range_with_len}
+use Rattle.std.specs.List.{flat_map}
 use Rattle.std.proofs.lemmas.Bool.Decides.{nat_tests}
 use Rattle.std.proofs.Math.Seq.{drop-append_seam}
 use Rattle.std.proofs.lemmas.List.FromFn.{length-map-range_with_len}
@@ -9,16 +9,15 @@ use Rattle.std.proofs.lemmas.List.Sums.{sum_by-cons}
 use Rattle.warp_request.specs.declared.verdict.Framing.{Framing}
 use Rattle.warp_request.specs.BodyLaws.{BodyStaysSettled}
 use Rattle.warp_request.specs.Laws.{StaysSettled}
-use Rattle.warp_response.specs.declared.response.LastWord.{LastWord}
 use Rattle.warp_response.specs.declared.response.LastWord.TheVariants.{Nothing, Close}
 use Rattle.warp_response.specs.Text.{answer_text}
 use Rattle.conn_loop.specs.Answers.{closes, last_word, answers_at, answers_within, finals_at, finals_within, finals_of, rest_at, rest_within, rest_of}
 use Rattle.conn_loop.specs.Replying.{Replying, folder_replies}
-use Rattle.conn_loop.specs.Turns.{Turn, turn_of, interim_of}
+use Rattle.conn_loop.specs.Turns.{Turn, turn_of}
 use Rattle.warp_load.specs.declared.request_kind.RequestKind.{RequestKind}
 use Rattle.warp_load.specs.LoadFolder.{load_folder, load_moment}
 use Rattle.warp_load.specs.LoadScripts.{answer_length, closing_length, load_room}
-use Rattle.warp_load.specs.LoadTotals.{load_answers, load_moments}
+use Rattle.warp_load.specs.LoadTotals.{load_answers}
 use Rattle.warp_load.specs.Requests.{load_input, request_bytes, request_kind, request_kinds}
 use Rattle.warp_load.proofs.ReadLemmas.{asked_by, turn_is, interim_is, nothing_is, no_bytes_wait, keeps_is, minor_is}
 use Rattle.warp_load.proofs.ReplyLemmas.{reply_by, reply_is, length-answer, length-closing}

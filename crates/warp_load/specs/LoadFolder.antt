@@ -26,5 +26,5 @@ unfoldable pub load_folder : Folder
 load_folder = folder_of load_entries
 
 -- a file with its path
-abbrev pub file_shown : MemFile → List ℕ × Content
-file_shown file = (string_bytes file.path, (file.bytes.items, file.mtime))
+abbrev pub file_entry : MemFile → List ℕ × Content
+file_entry file = (string_bytes file.path, (file.bytes.items, file.mtime))

@@ -1,7 +1,8 @@
 -- To be believed: of which size a load is.
 use Rattle.std.specs.Prelude.{ℕ, ◌*◌, Bool, ◌&&◌, nat_le}
 
--- the seed has 32 bits, 1 to 4,000 connections have 1 to 1,000 requests each, and there are at most 20,000 requests in all
+-- the seed has 32 bits, 1 to 4,000 connections have 1 to 1,000 requests each, and there are at most 20,000
+-- requests in all
 abbrev pub is_load : (seed connections requests : ℕ) → Bool
 is_load seed connections requests =
     nat_le seed 4294967295

@@ -1,4 +1,4 @@
--- To be believed: the scripts of the load: in which pieces each link gets its input, and what it may write meanwhile.
+-- To be believed: the scripts of the load: the pieces of each input, and what may be written meanwhile.
 use Rattle.std.specs.Prelude.{ℕ, zero, suc, ◌+◌, ◌*◌, ◌%◌, ◌==◌, List, [], ◌∷◌, length, take, drop, map, sum_by, if◌then◌else◌}
 use Rattle.std.specs.List.{range_with_len}
 use Rattle.outside.specs.ListenCauses.{Plan}
@@ -16,8 +16,9 @@ piece_length seed i k = 1 + (seed + i + k) % 61
 unfoldable pub piece_allowance : (seed i k : ℕ) → ℕ
 piece_allowance seed i k = 1 + (seed + 3 * i + 7 * k) % 977
 
--- The steps from step k on that bring these bytes, each with its piece and its allowance: the next bytes, or what is left. At
--- most so many steps, which is enough where there are as many as bytes, since each step brings one.
+-- The steps from step k on that bring these bytes, each with its piece and its allowance: the next bytes, or
+-- what is left. At most so many steps, which is enough where there are as many as bytes, since each brings
+-- one.
 unfoldable pub steps_within : (seed i most k : ℕ) → List ℕ → List (List ℕ × ℕ)
 steps_within seed i zero k s = []
 steps_within seed i (suc most) k [] = []
@@ -58,7 +59,8 @@ load_scripts seed connections requests = map (λ i. load_script seed requests i)
 
 -- the plans of all connections: each has its number and its whole input
 abbrev pub load_plans : (seed connections requests : ℕ) → List Plan
-load_plans seed connections requests = map (λ i. (i, load_input seed requests i)) (range_with_len 0 connections)
+load_plans seed connections requests =
+    map (λ i. (i, load_input seed requests i)) (range_with_len 0 connections)
 
 -- what a step of a script has
 abbrev pub step_shown : ScriptStep → List ℕ × ℕ

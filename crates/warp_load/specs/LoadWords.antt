@@ -15,21 +15,23 @@ unfoldable pub number_read : List ℕ → Option ℕ
 number_read word = if is_number word then Some (digits_value 10 word) else None
 
 -- a number that is in a range
-abbrev pub within : ℕ → ℕ → ℕ → Option ℕ
-within least most n = if nat_le least n && nat_le n most then Some n else None
+abbrev pub number_within : ℕ → ℕ → ℕ → Option ℕ
+number_within least most n = if nat_le least n && nat_le n most then Some n else None
 
 -- how many dispatchers a word asks for, 1 to 64
 unfoldable pub dispatchers_read : List ℕ → Option ℕ
-dispatchers_read word = option_and_then (within 1 64) (number_read word)
+dispatchers_read word = option_and_then (number_within 1 64) (number_read word)
 
 -- three numbers that are a load
 abbrev pub as_load : ℕ → ℕ → ℕ → Option (ℕ × ℕ × ℕ)
-as_load seed connections requests = if is_load seed connections requests then Some (seed, connections, requests) else None
+as_load seed connections requests =
+    if is_load seed connections requests then Some (seed, connections, requests) else None
 
 -- the load that three words name: its seed, its connections and the requests of each
 unfoldable pub load_read : List ℕ → List ℕ → List ℕ → Option (ℕ × ℕ × ℕ)
 load_read seed connections requests =
-    option_and_then (λ s. option_and_then (λ c. option_and_then (λ r. as_load s c r) (number_read requests)) (number_read connections)) (number_read seed)
+    option_and_then (λ s. option_and_then (λ c. option_and_then (λ r. as_load s c r)
+    (number_read requests)) (number_read connections)) (number_read seed)
 
 -- the numbers of a load
 abbrev pub load_shown : Option Load → Option (ℕ × ℕ × ℕ)

@@ -47,7 +47,8 @@ request_bytes TextHead = codes "HEAD /a.txt HTTP/1.1\r\nHost: a\r\n\r\n"
 request_bytes Big = codes "GET /big.bin HTTP/1.1\r\nHost: a\r\n\r\n"
 request_bytes Absent = codes "GET /nope HTTP/1.1\r\nHost: a\r\n\r\n"
 request_bytes Folder = codes "GET /sub?q=1 HTTP/1.1\r\nHost: a\r\n\r\n"
-request_bytes Posted = codes "POST /a.txt HTTP/1.1\r\nHost: a\r\nTransfer-Encoding: chunked\r\n\r\n5\r\nhello\r\n0\r\n\r\n"
+request_bytes Posted =
+    codes "POST /a.txt HTTP/1.1\r\nHost: a\r\nTransfer-Encoding: chunked\r\n\r\n5\r\nhello\r\n0\r\n\r\n"
 request_bytes Browser = browser_request
 
 -- the kinds of a connection's requests, in order

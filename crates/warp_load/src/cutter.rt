@@ -43,8 +43,8 @@ impl Cutter {
         }
     }
 
-    #[tactic(auto, unfolding(crate::specs::LoadScripts::piece_length))]
     /// How many bytes the next step brings.
+    #[tactic(auto, unfolding(crate::specs::LoadScripts::piece_length))]
     fn next_length(&self) -> usize
         requires small { IsSmall self.now }
         requires few { vec_len self.now.steps < 2 ^ 32 }
@@ -54,8 +54,8 @@ impl Cutter {
         1 + ((self.seed + self.connection + step) % LONGEST_PIECE) as usize
     }
 
-    #[tactic(auto, unfolding(crate::specs::LoadScripts::piece_allowance))]
     /// How many bytes the next step allows to be written.
+    #[tactic(auto, unfolding(crate::specs::LoadScripts::piece_allowance))]
     fn next_allowance(&self) -> u32
         requires small { IsSmall self.now }
         requires few { vec_len self.now.steps < 2 ^ 32 }
@@ -107,7 +107,8 @@ impl Cutter {
     fn make_room(&mut self) -> Result<(), AllocError>
         requires small { IsSmall self.old }
         requires few { vec_len self.old.steps < 2 ^ 32 }
-        ensures piece { (self.new.piece.items ≡ self.old.piece.items) × (vec_len self.new.piece ≡ vec_len self.old.piece) }
+        ensures piece { (self.new.piece.items ≡ self.old.piece.items)
+            × (vec_len self.new.piece ≡ vec_len self.old.piece) }
         ensures steps { self.new.steps ≡ self.old.steps }
         ensures same { IsSameCutter self.old self.new }
     {
@@ -121,8 +122,11 @@ impl Cutter {
     fn close(&mut self) -> Result<(), AllocError>
         requires small { IsSmall self.old }
         requires few { vec_len self.old.steps < 2 ^ 32 }
-        ensures step { OnOk result (map step_shown self.new.steps.items ≡ map step_shown self.old.steps.items
-            ++ (self.old.piece.items, piece_allowance self.old.seed self.old.connection (vec_len self.old.steps)) ∷ []) }
+        ensures step { OnOk result (map step_shown self.new.steps.items
+            ≡ map step_shown self.old.steps.items ++ (
+              self.old.piece.items,
+              piece_allowance self.old.seed self.old.connection (vec_len self.old.steps),
+            ) ∷ []) }
         ensures empty { OnOk result ((self.new.piece.items ≡ []) × (vec_len self.new.piece ≡ 0)) }
         ensures same { IsSameCutter self.old self.new }
         ensures one { OnOk result (vec_len self.new.steps ≡ vec_len self.old.steps + 1) }
@@ -137,7 +141,8 @@ impl Cutter {
     pub(crate) fn finish(mut self) -> Result<Vec<ScriptStep>, AllocError>
         requires small { IsSmall self }
         requires few { vec_len self.steps < 2 ^ 32 }
-        ensures steps { (front : List ℕ) → IsCut self front → IfOk result (λ steps. map step_shown steps.items ≡ steps_for self.seed self.connection 0 front) }
+        ensures steps { (front : List ℕ) → IsCut self front → IfOk result (λ steps.
+            map step_shown steps.items ≡ steps_for self.seed self.connection 0 front) }
     {
         if !self.piece.is_empty() {
             self.close()?;

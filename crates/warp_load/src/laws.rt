@@ -1,4 +1,5 @@
-//! What holds of the load as it is defined, whatever serves it. Each law is the contract of a function that does nothing.
+//! What holds of the load as it is defined, whatever serves it. Each law is the contract of a function that
+//! does nothing.
 ghost use Rattle.std.specs.Prelude.{◌≡◌, ◌≤◌, [], ℕ, length};
 ghost use Rattle.conn_loop.specs.Answers.{finals_of, rest_of};
 ghost use Rattle.warp_load.specs.LoadScripts.{load_room};
@@ -7,7 +8,8 @@ ghost use Rattle.warp_load.specs.Requests.{load_input};
 
 use warp_request::{a_settled_body_stays, a_settled_head_stays};
 
-/// A connection's input calls for as many final answers as it makes requests, and no byte of it is left behind them.
+/// A connection's input calls for as many final answers as it makes requests, and no byte of it is left
+/// behind them.
 pub fn each_request_is_answered()
     ensures rest { (seed requests i : ℕ) → requests ≤ 1000 → rest_of (load_input seed requests i) ≡ [] }
     ensures finals { (seed requests i : ℕ) → requests ≤ 1000 → finals_of (load_input seed requests i) ≡ requests }
@@ -18,7 +20,8 @@ pub fn each_request_is_answered()
 
 /// The answers to a connection have just as many bytes as its script has room for.
 pub fn answers_fill_the_room()
-    ensures { (seed requests i : ℕ) → requests ≤ 1000 → length (load_answers seed requests i) ≡ load_room seed requests i }
+    ensures { (seed requests i : ℕ) → requests ≤ 1000
+        → length (load_answers seed requests i) ≡ load_room seed requests i }
 {
     a_settled_head_stays();
     a_settled_body_stays();

@@ -1,8 +1,8 @@
-//! A load made from a number: the folder, the requests and the scripts of the links that the command `drive` serves over a net
-//! in memory, and what serving them adds up to.
+//! A load made from a number: the folder, the requests and the scripts of the links that the command `drive`
+//! serves over a net in memory, and what serving them adds up to.
 //!
-//! The promise: the files, the scripts and the sums are those of the definitions, which know no thread, no descriptor and no
-//! event: the sums are those of the answers to each connection's input with this folder.
+//! The promise: the files, the scripts and the sums are those of the definitions, which know no thread, no
+//! descriptor and no event: the sums are those of the answers to each connection's input with this folder.
 #![tactic(auto)]
 
 // Of which size a load is, and the words that name one.

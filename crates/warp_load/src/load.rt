@@ -2,8 +2,9 @@
 ghost use Rattle.std.specs.Prelude.{IsTrue};
 ghost use Rattle.warp_load.specs.LoadRanges.{is_load};
 
-/// A load: a seed, how many connections there are, and how many requests each of them makes. The seed is at most
-/// 4,294,967,295; there are 1 to 4,000 connections, 1 to 1,000 requests of each, and at most 20,000 requests in all.
+/// A load: a seed, how many connections there are, and how many requests each of them makes. The seed is at
+/// most 4,294,967,295. There are 1 to 4,000 connections, 1 to 1,000 requests of each, and at most 20,000
+/// requests in all.
 #[derive(Clone, Copy, Debug)]
 pub struct Load {
     pub seed: u64,
@@ -27,10 +28,12 @@ const TOTAL_LIMIT: u64 = 20_000;
 impl Load {
     ghost use Rattle.std.specs.Prelude.{◌≡◌, ◌↔◌, IfSome, IsSome};
 
-    /// The load of these numbers, or none where one of them is out of its range or there are too many requests in all.
+    /// The load of these numbers, or none where one of them is out of its range or there are too many
+    /// requests in all.
     pub fn new(seed: u64, connections: u64, requests: u64) -> Option<Load>
         ensures when { IsSome result ↔ IsTrue (is_load seed connections requests) }
-        ensures same { IfSome result (λ load. (load.seed ≡ seed) × (load.connections ≡ connections) × (load.requests ≡ requests)) }
+        ensures same { IfSome result (λ load.
+            (load.seed ≡ seed) × (load.connections ≡ connections) × (load.requests ≡ requests)) }
     {
         let fits = seed <= SEED_LIMIT
             && (1..=CONNECTION_LIMIT).contains(&connections)

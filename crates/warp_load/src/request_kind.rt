@@ -25,16 +25,23 @@ pub enum RequestKind {
 }
 
 const INDEX_REQUEST: &[u8] = b"GET / HTTP/1.1\r\nHost: a\r\n\r\n";
+
 const TEXT_REQUEST: &[u8] = b"GET /a.txt HTTP/1.1\r\nHost: a\r\n\r\n";
+
 const TEXT_HEAD_REQUEST: &[u8] = b"HEAD /a.txt HTTP/1.1\r\nHost: a\r\n\r\n";
+
 const BIG_REQUEST: &[u8] = b"GET /big.bin HTTP/1.1\r\nHost: a\r\n\r\n";
+
 const ABSENT_REQUEST: &[u8] = b"GET /nope HTTP/1.1\r\nHost: a\r\n\r\n";
+
 const FOLDER_REQUEST: &[u8] = b"GET /sub?q=1 HTTP/1.1\r\nHost: a\r\n\r\n";
+
 const POSTED_REQUEST: &[u8] = b"POST /a.txt HTTP/1.1\r\n\
     Host: a\r\n\
     Transfer-Encoding: chunked\r\n\
     \r\n\
     5\r\nhello\r\n0\r\n\r\n";
+
 const BROWSER_REQUEST: &[u8] = b"GET /sub/ HTTP/1.1\r\n\
     Host: localhost:8080\r\n\
     User-Agent: Mozilla/5.0 (X11; Linux x86_64; rv:128.0) Gecko/20100101 Firefox/128.0\r\n\
@@ -54,17 +61,24 @@ const BROWSER_REQUEST: &[u8] = b"GET /sub/ HTTP/1.1\r\n\
 
 // How many bytes each kind's answer has where it doesn't close the connection.
 const INDEX_ANSWER: u64 = 140;
+
 const TEXT_ANSWER: u64 = 1141;
+
 const TEXT_HEAD_ANSWER: u64 = 141;
+
 const BIG_ANSWER: u64 = 40_141;
+
 const ABSENT_ANSWER: u64 = 104;
+
 const FOLDER_ANSWER: u64 = 133;
+
 const POSTED_ANSWER: u64 = 140;
+
 const BROWSER_ANSWER: u64 = 141;
 
 impl RequestKind {
-    #[tactic(auto, unfolding(crate::specs::Requests::request_kind))]
     /// The kind of a connection's request, both counted from 0, in the load of a seed.
+    #[tactic(auto, unfolding(crate::specs::Requests::request_kind))]
     pub fn of(seed: u64, connection: u64, request: u64) -> RequestKind
         requires small { (seed < 2 ^ 32) × (connection < 2 ^ 32) × (request < 2 ^ 32) }
         ensures kind { result ≡ request_kind seed connection request }
@@ -81,8 +95,8 @@ impl RequestKind {
         }
     }
 
-    #[tactic(auto, unfolding(crate::specs::Requests::request_bytes))]
     /// Its bytes, head and body.
+    #[tactic(auto, unfolding(crate::specs::Requests::request_bytes))]
     pub fn bytes(self) -> &'static [u8]
         ensures bytes { result.now ≡ request_bytes self }
     {
@@ -98,8 +112,8 @@ impl RequestKind {
         }
     }
 
-    #[tactic(auto, unfolding(crate::specs::LoadScripts::answer_length))]
     /// How many bytes its answer has, where that doesn't close the connection.
+    #[tactic(auto, unfolding(crate::specs::LoadScripts::answer_length))]
     pub fn answer_length(self) -> u64
         ensures length { result ≡ answer_length self }
     {

@@ -10,14 +10,17 @@ use crate::sums::room;
 use poller::Script;
 use std::alloc::{AllocError, Global};
 
-/// The script of each of the load's links, in order, as `poller::MemNet::new` takes them. A link's script gives its requests in
-/// pieces of 1 to 61 bytes, each with 1 to 977 bytes more that may be written, and has room for just its answers.
+/// The script of each of the load's links, in order, as `poller::MemNet::new` takes them. A link's script
+/// gives its requests in pieces of 1 to 61 bytes, each with 1 to 977 bytes more that may be written, and has
+/// room for just its answers.
 pub fn load_scripts(alloc: Global, load: Load) -> Result<Vec<Script>, AllocError>
     // Each script is, piece by piece, that of the load, and has its room.
-    ensures scripts { IfOk result (λ scripts. map script_shown scripts.items ≡ load_scripts load.seed load.connections load.requests) }
+    ensures scripts { IfOk result (λ scripts.
+        map script_shown scripts.items ≡ load_scripts load.seed load.connections load.requests) }
 
     // So the plan of each link is its whole input.
-    ensures plans { IfOk result (λ scripts. plans_from 0 scripts.items ≡ load_plans load.seed load.connections load.requests) }
+    ensures plans { IfOk result (λ scripts.
+        plans_from 0 scripts.items ≡ load_plans load.seed load.connections load.requests) }
 
     // A net takes them.
     ensures fit { IfOk result (λ scripts. AreScripts scripts.items) }
@@ -32,7 +35,8 @@ pub fn load_scripts(alloc: Global, load: Load) -> Result<Vec<Script>, AllocError
 /// The script of a link.
 fn script(alloc: Global, load: &Load, connection: u64) -> Result<Script, AllocError>
     requires { connection < 4000 }
-    ensures { IfOk result (λ script. script_shown script ≡ load_script load.now.seed load.now.requests connection) }
+    ensures { IfOk result (λ script.
+        script_shown script ≡ load_script load.now.seed load.now.requests connection) }
 {
     let mut cutter = Cutter::new(alloc, load.seed, connection);
     for request in 0..load.requests {

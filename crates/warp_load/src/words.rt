@@ -26,8 +26,8 @@ fn is_number(word: &str) -> bool
     (1..=MOST_DIGITS).contains(&word.len()) && are_digits(word.as_bytes())
 }
 
-#[tactic(auto, unfolding(crate::specs::LoadWords::number_read))]
 /// The number that a word is: 1 to 10 decimal digits, the first of which may be zeros, with no sign.
+#[tactic(auto, unfolding(crate::specs::LoadWords::number_read))]
 pub fn number_in(word: &str) -> Option<u64>
     ensures { result ≡ number_read word.now }
 {
@@ -38,8 +38,8 @@ pub fn number_in(word: &str) -> Option<u64>
     }
 }
 
-#[tactic(auto, unfolding(crate::specs::LoadWords::dispatchers_read))]
 /// The number of dispatchers that a word asks for, 1 to 64.
+#[tactic(auto, unfolding(crate::specs::LoadWords::dispatchers_read))]
 pub fn dispatchers_in(word: &str) -> Option<u32>
     ensures { result ≡ dispatchers_read word.now }
 {
@@ -51,8 +51,8 @@ pub fn dispatchers_in(word: &str) -> Option<u32>
     }
 }
 
-#[tactic(auto, unfolding(crate::specs::LoadWords::load_read))]
 /// The load that three words name: its seed, its connections and the requests of each.
+#[tactic(auto, unfolding(crate::specs::LoadWords::load_read))]
 pub fn load_in(seed: &str, connections: &str, requests: &str) -> Option<Load>
     ensures { load_shown result ≡ load_read seed.now connections.now requests.now }
 {

@@ -1,4 +1,4 @@
-use Rattle.std.proofs.Common.{◌≡◌, ℕ, ◌+◌, ◌*◌, ◌++◌, List, length, ap, sym, subst, ◌∙◌, arith}
+use Rattle.std.proofs.Common.{◌≡◌, ℕ, ◌+◌, ◌++◌, List, length, ap, sym, subst, ◌∙◌, arith}
 use Rattle.warp_load.specs.Cutting.{IsCut}
 use Rattle.warp_load.specs.Requests.{load_input, request_bytes, request_kind}
 use Rattle.warp_load.proofs.LoadLists.{input_none, input_next, length-request_bytes}
@@ -23,9 +23,9 @@ pub loop-request-preserved : goal.loop-request-preserved
 loop-request-preserved c =
     let load = c.args.load.now in
     let bytes : c.bytes.result.now ≡ request_bytes (request_kind load.seed c.args.connection c.loop-request.request) =
-        c.bytes.ensures.bytes ∙ ap request_bytes c.of.ensures.kind in
+    c.bytes.ensures.bytes ∙ ap request_bytes c.of.ensures.kind in
     let input : load_input load.seed c.loop-request.request c.args.connection ++ c.bytes.result.now ≡ load_input load.seed (c.loop-request.request + 1) c.args.connection =
-        ap (λ (t : List ℕ). load_input load.seed c.loop-request.request c.args.connection ++ t) bytes ∙ sym (input_next load.seed c.loop-request.request c.args.connection) in
+    ap (λ (t : List ℕ). load_input load.seed c.loop-request.request c.args.connection ++ t) bytes ∙ sym (input_next load.seed c.loop-request.request c.args.connection) in
     record {
       cut = subst (λ (t : List ℕ). IsCut c.add.new.self t) input (c.in_ok-add.ensures.cut (load_input load.seed c.loop-request.request c.args.connection) c.loop-request.invariant.cut);
       small = record {

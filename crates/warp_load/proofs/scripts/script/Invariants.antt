@@ -1,5 +1,5 @@
-use Rattle.std.proofs.Common.{◌≡◌, ◌*◌, ◌≤◌, ◌<◌, vec_len}
-use Rattle.warp_load.specs.Cutting.{IsCut, IsSmall, next_length}
+use Rattle.std.proofs.Common.{◌≡◌, ◌*◌, ◌≤◌, vec_len}
+use Rattle.warp_load.specs.Cutting.{IsCut, IsSmall}
 use Rattle.warp_load.specs.Requests.{load_input}
 use Rattle.warp_load.proofs.scripts.script.Given as goal
 

@@ -1,4 +1,4 @@
-use Rattle.std.proofs.Common.{◌≡◌, ℕ, ◌+◌, ◌≤◌, ◌++◌, [], List, length, take, drop, ap, sym, subst, ◌∙◌, arith, append_assoc, append-nil}
+use Rattle.std.proofs.Common.{◌≡◌, ℕ, ◌++◌, [], List, length, drop, ap, sym, subst, ◌∙◌, arith, append_assoc, append-nil}
 use Rattle.std.proofs.lemmas.List.{take-append-drop, nil_from_length}
 use Rattle.warp_load.specs.Cutting.{IsCut}
 use Rattle.warp_load.proofs.CutterLemmas.{pos_of, zero_of}
@@ -10,15 +10,15 @@ loop-rest-preserved c =
     let next = c.split_at.result.0.now in
     let later = c.split_at.result.1.now in
     let parts : c.loop-rest.rest.now ≡ next ++ later =
-        sym (take-append-drop c.min.result c.loop-rest.rest.now) ∙ ap (λ (t : List ℕ). t ++ drop c.min.result c.loop-rest.rest.now) (sym c.split_at.ensures.front)
-        ∙ ap (λ (t : List ℕ). next ++ t) (sym c.split_at.ensures.back) in
+    sym (take-append-drop c.min.result c.loop-rest.rest.now) ∙ ap (λ (t : List ℕ). t ++ drop c.min.result c.loop-rest.rest.now) (sym c.split_at.ensures.front)
+    ∙ ap (λ (t : List ℕ). next ++ t) (sym c.split_at.ensures.back) in
     record {
       cut = λ front before.
-        let so_far = inv.cut front before in (
-          so_far.0 ++ next,
-          so_far.1 ∙ ap (λ (t : List ℕ). so_far.0 ++ t) parts ∙ sym (append_assoc so_far.0 next later),
-          subst (λ (t : List ℕ). IsCut c.fill.new.self t) (append_assoc front so_far.0 next) (c.in_ok-fill.ensures.cut (front ++ so_far.0) so_far.2),
-        );
+          let so_far = inv.cut front before in (
+            so_far.0 ++ next,
+            so_far.1 ∙ ap (λ (t : List ℕ). so_far.0 ++ t) parts ∙ sym (append_assoc so_far.0 next later),
+            subst (λ (t : List ℕ). IsCut c.fill.new.self t) (append_assoc front so_far.0 next) (c.in_ok-fill.ensures.cut (front ++ so_far.0) so_far.2),
+          );
       same = record {
         seed = c.fill.ensures.same.seed ∙ inv.same.seed;
         connection = c.fill.ensures.same.connection ∙ inv.same.connection;

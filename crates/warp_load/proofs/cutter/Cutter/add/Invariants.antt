@@ -1,5 +1,5 @@
-use Rattle.std.proofs.Common.{◌≡◌, ℕ, ◌+◌, ◌<◌, ◌≤◌, ◌^◌, ◌++◌, List, length, vec_len}
-use Rattle.warp_load.specs.Cutting.{IsCut, IsSameCutter, IsSmall, next_length}
+use Rattle.std.proofs.Common.{◌≡◌, ℕ, ◌+◌, ◌<◌, ◌≤◌, ◌++◌, List, length, vec_len}
+use Rattle.warp_load.specs.Cutting.{IsCut, IsSameCutter, next_length}
 use Rattle.warp_load.proofs.cutter.Cutter.add.Given as goal
 
 -- the bytes before the rest are cut
