@@ -45,6 +45,12 @@ sum_same r a (suc n) =
     let later = sum_same r (a + 1) n in
     sum_by-cons (λ i. r) a (range_with_len (a + 1) n) ∙ ap (λ (m : ℕ). r + m) later ∙ add_comm r (n * r) ∙ sym (suc-mul n r)
 
+-- a sum over what a function makes of numbers
+pub sum_by-map : {X : Type 0} (g : X → ℕ) (f : ℕ → X) (ns : List ℕ) → sum_by g (map f ns) ≡ sum_by (λ n. g (f n)) ns
+sum_by-map {X} g f [] = refl
+sum_by-map {X} g f (n ∷ ns) =
+    sum_by-cons g (f n) (map f ns) ∙ ap (λ (m : ℕ). g (f n) + m) (sum_by-map g f ns) ∙ sym (sum_by-cons (λ k. g (f k)) n ns)
+
 -- no request
 pub input_none : (seed i : ℕ) → load_input seed 0 i ≡ []
 unfolding load_input

@@ -1,9 +1,11 @@
 //! What holds of the load as it is defined, whatever serves it. Each law is the contract of a function that
 //! does nothing.
-ghost use Rattle.std.specs.Prelude.{◌≡◌, ◌≤◌, [], ℕ, length};
-ghost use Rattle.conn_loop.specs.Answers.{finals_of, rest_of};
-ghost use Rattle.warp_load.specs.LoadScripts.{load_room};
-ghost use Rattle.warp_load.specs.LoadTotals.{load_answers};
+ghost use Rattle.std.specs.Prelude.{◌≡◌, ◌≤◌, [], ℕ, length, sum_by};
+ghost use Rattle.conn_loop.specs.Answers.{answers_of, finals_of, rest_of};
+ghost use Rattle.conn_loop.specs.Replying.{folder_replies};
+ghost use Rattle.warp_load.specs.LoadFolder.{load_folder};
+ghost use Rattle.warp_load.specs.LoadScripts.{load_plans, load_room};
+ghost use Rattle.warp_load.specs.LoadTotals.{load_answers, load_moments, load_total};
 ghost use Rattle.warp_load.specs.Requests.{load_input};
 
 use warp_request::{a_settled_body_stays, a_settled_head_stays};
@@ -26,3 +28,14 @@ pub fn answers_fill_the_room()
     a_settled_head_stays();
     a_settled_body_stays();
 }
+
+/// The sums over all connections are those over the plans of their links.
+pub fn sums_are_over_the_plans()
+    ensures requests { (seed connections requests : ℕ)
+        → sum_by (λ plan. finals_of plan.1) (load_plans seed connections requests)
+        ≡ (load_total seed connections requests).0 }
+    ensures bytes { (seed connections requests : ℕ)
+        → sum_by (λ plan. length (answers_of (folder_replies load_folder) plan.1 load_moments))
+        (load_plans seed connections requests)
+        ≡ (load_total seed connections requests).1 }
+{}
