@@ -1,24 +1,15 @@
 -- What a load's ranges say of its numbers.
-use Rattle.std.proofs.Common.{◌≡◌, ℕ, ◌*◌, ◌≤◌, true, arith}
+use Rattle.std.proofs.Common.{◌≡◌, ℕ, ◌≤◌, true, arith}
 use Rattle.std.specs.Prelude.{IsTrue, nat_le}
 use Rattle.std.proofs.lemmas.Bool.{and_parts}
 use Rattle.std.proofs.lemmas.Bool.Decides.{nat_tests}
-use Rattle.warp_load.specs.LoadRanges.{is_load}
-
--- the ranges of a load's numbers
-pub record Ranges (seed connections requests : ℕ) : Type 0 where
-  pub seed_fits : seed ≤ 4294967295
-  pub some_connections : 1 ≤ connections
-  pub connections_fit : connections ≤ 4000
-  pub some_requests : 1 ≤ requests
-  pub requests_fit : requests ≤ 1000
-  pub total_fits : connections * requests ≤ 20000
+use Rattle.warp_load.specs.LoadRanges.{HasRanges, is_load}
 
 -- what a test of an order says
 pub at_most : (m n : ℕ) → nat_le m n ≡ true → m ≤ n
 at_most m n test = grind (arith, nat_tests)
 
-pub ranges : (seed connections requests : ℕ) → IsTrue (is_load seed connections requests) → Ranges seed connections requests
+pub ranges : (seed connections requests : ℕ) → IsTrue (is_load seed connections requests) → HasRanges seed connections requests
 ranges seed connections requests load =
     let three = and_parts _ _ load in
     let two = and_parts _ _ three.0 in

@@ -1,14 +1,21 @@
 //! What holds of the load as it is defined, whatever serves it. Each law is the contract of a function that
 //! does nothing.
-ghost use Rattle.std.specs.Prelude.{◌≡◌, ◌≤◌, [], ℕ, length, sum_by};
+ghost use Rattle.std.specs.Prelude.{◌≡◌, ◌≤◌, [], ℕ, IsTrue, length, sum_by};
 ghost use Rattle.conn_loop.specs.Answers.{answers_of, finals_of, rest_of};
 ghost use Rattle.conn_loop.specs.Replying.{folder_replies};
 ghost use Rattle.warp_load.specs.LoadFolder.{load_folder};
+ghost use Rattle.warp_load.specs.LoadRanges.{HasRanges, is_load};
 ghost use Rattle.warp_load.specs.LoadScripts.{load_plans, load_room};
 ghost use Rattle.warp_load.specs.LoadTotals.{load_answers, load_moments, load_total};
 ghost use Rattle.warp_load.specs.Requests.{load_input};
 
 use warp_request::{a_settled_body_stays, a_settled_head_stays};
+
+/// Each number of a load is in its range.
+pub fn a_load_has_its_ranges()
+    ensures { (seed connections requests : ℕ) → IsTrue (is_load seed connections requests)
+        → HasRanges seed connections requests }
+{}
 
 /// A connection's input calls for as many final answers as it makes requests, and no byte of it is left
 /// behind them.

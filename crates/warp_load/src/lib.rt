@@ -19,8 +19,10 @@ mod laws;
 mod scripts;
 mod sums;
 
-pub use folder::{LoadPlace, load_files};
-pub use laws::{answers_fill_the_room, each_request_is_answered, sums_are_over_the_plans};
+pub use folder::{LOAD_MOMENT, LoadPlace, load_files};
+pub use laws::{
+    a_load_has_its_ranges, answers_fill_the_room, each_request_is_answered, sums_are_over_the_plans,
+};
 pub use load::Load;
 pub use request_kind::RequestKind;
 pub use scripts::load_scripts;
