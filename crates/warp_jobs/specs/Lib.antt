@@ -1,0 +1,5 @@
+pub mod Held
+pub mod HeldListener
+pub mod Listeners
+pub mod Sessions
+pub mod Tags
