@@ -66,7 +66,6 @@ impl FolderApp {
 }
 
 /// The answer to GET and HEAD, or the look that it needs.
-#[inline(always)]
 fn file_move(target: &[u8], send: bool, seen: Seen, path: &mut PathBuf8) -> Move
     requires kept { PathKept (move_by_route (route_of target.now) target.now send) seen path.old }
     ensures is { move_shown target.now result path.new ≡ move_by_route (route_of target.now) target.now send seen }

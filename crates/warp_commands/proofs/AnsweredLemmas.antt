@@ -1,10 +1,10 @@
 -- Inner: what the steps of a connection come to in the words of a command.
-use Rattle.std.proofs.Common.{◌≡◌, ◌≢◌, ℕ, ◌≤◌, ◌<◌, Bool, true, List, [], ◌++◌, length, Option, Some, None, IfSome, option_map, is_some, refl, sym, ap, subst, arith, append-nil, length-append, drop, inl, inr}
+use Rattle.std.proofs.Common.{◌≡◌, ◌≢◌, ℕ, ◌≤◌, ◌<◌, Bool, true, List, [], ◌++◌, length, Option, Some, None, IfSome, is_some, refl, sym, ap, subst, arith, append-nil, length-append, drop, inl, inr}
 use Rattle.outside.specs.Causes.{IsFresh, LinkTold}
 use Rattle.outside.specs.Folder.{Folder}
 use Rattle.outside.specs.Moments.{ClockTold, Gains, Gives}
 use Rattle.conn_loop.specs.Answers.{answers_of, finals_of, IsOpen}
-use Rattle.conn_loop.specs.Replying.{Replying, Serving, folder_replies, replies, request_of, serving_over}
+use Rattle.conn_loop.specs.Replying.{Replying, folder_replies, replies, request_of, serving_over}
 use Rattle.app_trait.specs.FolderMoves.{folder_move}
 use Rattle.app_trait.specs.FolderReply.{folder_reply}
 use Rattle.app_trait.specs.Moves.{RequestText}
@@ -12,7 +12,7 @@ use Rattle.app_trait.specs.ReplyTo.{reply_to}
 use mathlib.Core.Path.{fun_ext}
 use Rattle.outside.specs.Counts.{Counts}
 use Rattle.conn_loop.specs.Causes.{CountsWaits}
-use Rattle.conn_loop.specs.Ends.{HasEnded, GoesOn, IsBroken, IsCleanEnd, IsCutShort, IsShort, IsWhole, SendsPrefix, StepImplies}
+use Rattle.conn_loop.specs.Ends.{HasEnded, GoesOn, IsBroken, IsCleanEnd, IsCutShort, IsWhole, SendsPrefix, StepImplies}
 use Rattle.conn_loop.specs.Standing.{Standing, SendsPrefixFor, StepImpliesFor}
 use Rattle.warp_response.specs.Reply.{sent_bytes}
 use Rattle.conn_loop.specs.declared.step.Step.{Step}

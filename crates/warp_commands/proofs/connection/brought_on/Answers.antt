@@ -1,9 +1,8 @@
-use Rattle.std.proofs.Common.{◌≡◌, sym, ap, ◌∙◌, subst}
-use Rattle.std.specs.Prelude.{IfNone}
+use Rattle.std.proofs.Common.{sym, ap, ◌∙◌, subst}
 use Rattle.app_trait.specs.FolderMoves.{folder_move}
 use Rattle.conn_loop.specs.Replying.{serving_over}
-use Rattle.conn_loop.specs.Standing.{Standing, SendsPrefixFor, StepImpliesFor}
-use Rattle.warp_commands.proofs.BroughtLemmas.{clocked_first, clocked_then, goes_first, goes_supplied, brings_at}
+use Rattle.conn_loop.specs.Standing.{Standing, StepImpliesFor}
+use Rattle.warp_commands.proofs.BroughtLemmas.{clocked_then, goes_supplied, brings_at}
 use Rattle.warp_commands.proofs.connection.brought_on.Goals as goal
 
 pub files-preserved : goal.files-preserved
