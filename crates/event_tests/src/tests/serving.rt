@@ -203,7 +203,8 @@ fn push_row(
     ensures { IfOk result (λ _. All (λ row. ServesRow mgr.now queue.now row.pass row.kit.book) rows.new.items) }
 {
     // Lets the contract speak of the two.
-    let _shared = (mgr, queue);
+    let _mgr = mgr;
+    let _queue = queue;
     rows.push(row)?;
     Ok(())
 }
