@@ -7,7 +7,7 @@ use super::*;
 use conn_loop::{Conn, End, Scratch};
 use outside::{Files, Link, MemClock, MemFiles, PieceLink, ReadEvent};
 use reg_keys::{Dir, Opening};
-use std::alloc::{AllocError, Global, Global};
+use std::alloc::{AllocError, Global};
 use std::marker::Brand;
 use std::test::Fail;
 use timeout_mgr::{AddWatch, Timeouts, Watch};
@@ -19,7 +19,7 @@ const OPENING: Opening = Opening { number: 7, fd: 7 };
 const OPTIONS: &[u8] = b"OPTIONS * HTTP/1.1\r\nHost: a\r\n\r\n";
 
 /// A connection over this link, of which nothing was read or written.
-fn begun<L: Link, F: Files>(
+fn begun<L: Link + Drop, F: Files>(
     alloc: Global,
     link: L,
     watch: Watch,
