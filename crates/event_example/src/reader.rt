@@ -120,7 +120,7 @@ fn events_of_reply(reply: RegisterReply<Job>) -> EventPair
 
 /// How far reading came, with the bytes that were read.
 enum Drained {
-    /// There is no more for now.
+    /// No byte is there yet.
     NotYet(usize),
     /// There will be no more.
     Over(usize),
