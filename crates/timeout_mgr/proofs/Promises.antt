@@ -1,5 +1,5 @@
 -- What holds of every history of watches, and of what a full table shows.
-use Rattle.std.proofs.Common.{◌≡◌, ℕ, zero, suc, ◌+◌, ◌*◌, ◌%◌, ◌<◌, ◌≤◌, ◌⊎◌, inl, inr, ⊎_elim, List, [], ◌∷◌, ◌++◌, Bool, true, false, refl, sym, ap, ◌∙◌, subst, arith}
+use Rattle.std.proofs.Common.{◌≡◌, ℕ, zero, suc, ◌+◌, ◌*◌, ◌/◌, ◌%◌, ◌<◌, ◌≤◌, ◌⊎◌, inl, inr, ⊎_elim, List, [], ◌∷◌, ◌++◌, Bool, true, false, refl, sym, ap, ◌∙◌, subst, arith}
 use Rattle.std.specs.Prelude.{Option, Some, None, All, if◌then◌else◌}
 use Rattle.std.proofs.lemmas.List.{append_assoc}
 use Rattle.std.proofs.lemmas.List.Elements.{All-nil, All-cons}
@@ -12,7 +12,7 @@ use Rattle.timeout_mgr.specs.declared.view.WatchEntry.TheVariants.{Added, Tickle
 use Rattle.timeout_mgr.specs.declared.view.Shown.{Shown}
 use Rattle.timeout_mgr.specs.Watches.{WatchLog, Status, Unborn, Lives, Ended, name_of, is_of, is_alive, after, watch_entries, status_after, status, before, IsWatchAnswer, IsWatchHistory}
 use Rattle.timeout_mgr.specs.Passes.{entry_of, entries_in}
-use Rattle.timeout_mgr.specs.Calls.{AreTaken, IsTakenAt, SweptSlot, list_of, IsRound}
+use Rattle.timeout_mgr.specs.Calls.{AreTaken, IsTakenAt, slot_at, SweptSlot, list_of, IsRound}
 use Rattle.timeout_mgr.specs.Promises.{adds, ends, gives, EndsOnce, IsGone, WasUnborn, StaysEnded, ShowsTaken}
 use Rattle.timeout_mgr.proofs.Places.{of_here, of_slot, of_number}
 
@@ -222,11 +222,11 @@ keeps_opening (d ∷ past) x o l i = ⊎_elim
     (λ j. inr (keeps_opening past x o l.1 j)) i
 
 shows_each : (first n : ℕ) (items : List Shown) → AreTaken first n items → (j : ℕ) → j < n
-    → ShowsTaken ((first + j) % 4096) items
+    → ShowsTaken (slot_at ((first + j) % 4096)) items
 unfolding AreTaken
 shows_each first zero items t j h = absurd (omega (arith, h))
 shows_each first (suc n) items t j h = elim (ℕ_discrete j n) [
-  | yes e ↦ ([], t.0, t.1, t.2, subst (λ (i : ℕ). IsTakenAt ((first + i) % 4096) t.0) (sym e) t.4)
+  | yes e ↦ ([], t.0, t.1, t.2, subst (λ (i : ℕ). IsTakenAt (slot_at ((first + i) % 4096)) t.0) (sym e) t.4)
   | no ne ↦ let r = shows_each first n t.1 t.3 j (omega (arith, h, ne)) in (
     t.0 ++ r.0,
     r.1,
@@ -237,8 +237,11 @@ shows_each first (suc n) items t j h = elim (ℕ_discrete j n) [
 ]
 
 pub shows_all : (first : ℕ) (items : List Shown) → AreTaken first 4096 items → (k : ℕ) → k < 4096 → ShowsTaken k items
-shows_all first items t k h = let j : ℕ = (k + 4095 * first) % 4096 in let e : (first + j) % 4096 ≡ k = omega arith in
-    subst (λ (i : ℕ). ShowsTaken i items) e (shows_each first 4096 items t j (omega arith))
+shows_all first items t k h = let place : ℕ = k % 8 * 512 + k / 8 in
+    let there : slot_at place ≡ k = omega (arith, h) in
+    let j : ℕ = (place + 4095 * first) % 4096 in
+    let e : (first + j) % 4096 ≡ place = omega (arith, h) in
+    subst (λ (i : ℕ). ShowsTaken i items) (ap slot_at e ∙ there) (shows_each first 4096 items t j (omega arith))
 
 total_append : {A : Type 0} (f : A → ℕ) (xs ys : List A) → total f (xs ++ ys) ≡ total f xs + total f ys
 total_append f [] ys = omega arith

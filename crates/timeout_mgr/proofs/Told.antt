@@ -19,7 +19,7 @@ use Rattle.timeout_mgr.specs.Plays.{M, name, Takes, tickle_look, tickle_try, can
 use Rattle.timeout_mgr.specs.declared.view.TimeCall.{TimeCall}
 use Rattle.timeout_mgr.specs.declared.view.TimeCall.TheVariants.{Sweep}
 use Rattle.timeout_mgr.specs.Passes.{calls_in, calls_of, call_of, decided_call}
-use Rattle.timeout_mgr.specs.Calls.{GoesOn, Decides, DecidesNothing, AreTaken, IsTakenAt, SweptSlot, HasSwept, IsRound, list_of}
+use Rattle.timeout_mgr.specs.Calls.{GoesOn, Decides, DecidesNothing, AreTaken, IsTakenAt, slot_at, SweptSlot, HasSwept, IsRound, list_of}
 use Rattle.timeout_mgr.specs.OneSlot.{Stays, ShowsOne, SweepsAt, Answers}
 use Rattle.timeout_mgr.proofs.Keeps.{entries_append, calls_append}
 
@@ -228,13 +228,13 @@ pub none_taken : (first : ℕ) → AreTaken first 0 []
 unfolding AreTaken
 none_taken first = refl
 
-taken_suc : (first k : ℕ) (older newer : List Shown) → AreTaken first k older → IsTakenAt ((first + k) % 4096) newer
+taken_suc : (first k : ℕ) (older newer : List Shown) → AreTaken first k older → IsTakenAt (slot_at ((first + k) % 4096)) newer
     → AreTaken first (suc k) (newer ++ older)
 unfolding AreTaken
 taken_suc first k older newer a t = (newer, older, refl, a, t)
 
 pub next_taken : (first k : ℕ) (older newer : List Shown) → AreTaken first k older
-    → IsTakenAt ((first + k) % 4096) newer → AreTaken first (k + 1) (newer ++ older)
+    → IsTakenAt (slot_at ((first + k) % 4096)) newer → AreTaken first (k + 1) (newer ++ older)
 next_taken first k older newer a t =
     subst (λ (n : ℕ). AreTaken first n (newer ++ older)) (omega arith) (taken_suc first k older newer a t)
 

@@ -1,5 +1,5 @@
 -- To be believed: what the calls say, over what their pass knows before and after.
-use Rattle.std.specs.Prelude.{◌≡◌, ◌≢◌, ℕ, ◌+◌, ◌%◌, ◌⊎◌, List, [], ◌∷◌, ◌++◌, true, false, Option, Some, None, zero, suc}
+use Rattle.std.specs.Prelude.{◌≡◌, ◌≢◌, ℕ, ◌+◌, ◌*◌, ◌/◌, ◌%◌, ◌⊎◌, List, [], ◌∷◌, ◌++◌, true, false, Option, Some, None, zero, suc}
 use Rattle.reg_keys.specs.declared.Opening.{Opening}
 use Rattle.timeout_mgr.specs.declared.view.WatchName.{WatchName}
 use Rattle.timeout_mgr.specs.declared.view.WatchEntry.{WatchEntry}
@@ -63,11 +63,15 @@ abbrev pub IsTakenAt : ℕ → List Shown → Type 0
 IsTakenAt k items = ((n : ℕ) × (items ≡ Saw k n ∷ []) × IsTaken n)
     ⊎ ((n : ℕ) × (uses : ℕ) × (n ≢ free_word uses) × (items ≡ Saw k n ∷ Saw k (free_word uses) ∷ []))
 
--- the same of as many slots in a row, from the first one on and round the table, each once, the last one first
+-- the slot at this place of the round in which adds look at the slots
+abbrev pub slot_at : ℕ → ℕ
+slot_at place = place % 512 * 8 + place / 512
+
+-- the same of the slots at as many places in a row, from the first one on and round the table, each once, the last one first
 unfoldable pub AreTaken : ℕ → ℕ → List Shown → Type 0
 AreTaken first zero items = items ≡ []
 AreTaken first (suc count) items = (newer : List Shown) × (older : List Shown) × (items ≡ newer ++ older)
-    × AreTaken first count older × IsTakenAt ((first + count) % 4096) newer
+    × AreTaken first count older × IsTakenAt (slot_at ((first + count) % 4096)) newer
 
 -- an add: it made its watch, or looked at each of the 4,096 slots once and saw it taken
 abbrev pub HasAdded : Opening → TimeView → AddWatch → TimeView → Type 0

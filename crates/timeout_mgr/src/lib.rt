@@ -14,6 +14,7 @@ mod laws;
 mod limits;
 mod one_slot;
 mod plays;
+mod round;
 mod rule;
 mod timeouts;
 mod view;

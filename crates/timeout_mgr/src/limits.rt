@@ -5,6 +5,3 @@ pub const SLOTS: usize = 4096;
 
 /// How often a slot is used at most.
 pub const USES: u64 = 1 << 40;
-
-/// How many words of a table lie in one line of a processor's cache.
-pub(crate) const LINE: usize = 8;

@@ -3,8 +3,9 @@ ghost use Rattle.std.specs.Prelude.{◌≡◌, ◌<◌, IfOk, IsOk};
 ghost use Rattle.timeout_mgr.specs.Rule.{IsAtRest};
 
 use crate::expired::Expired;
-use crate::limits::{LINE, SLOTS};
+use crate::limits::SLOTS;
 use crate::plays::{Both, Compare, Cut};
+use crate::round::{SPLIT_GAP, slot_of};
 use crate::rule::Words;
 use crate::view::TimeView;
 use crate::watch::{AddWatch, CancelOut, TickleOut, Watch};
@@ -20,21 +21,15 @@ pub struct Timeouts {
     ghost sized: { (table.shared.table_id.words ≡ 4096) × (table.shared.table_id.slots ≡ 4096) },
 }
 
-/// What a thread makes calls with. It has no bytes.
+/// What a thread makes calls with. Its adds go round the table, and each looks on from where the last one
+/// stopped.
 #[derive(Drop)]
 pub struct TimePass {
     pub(crate) seat: Seat<Option<Opening>, TimeView>,
+    /// The place of the round at which the next add begins.
+    pub(crate) next: usize,
     ghost rests: { IsAtRest seat.me },
-}
-
-/// The slot at which a search for the descriptor begins. Descriptors that follow one another lie in different
-/// lines of the cache, since their watches are written by different threads.
-pub(crate) fn first_slot(fd: u16) -> usize
-    ensures { result < 4096 }
-{
-    let place = fd as usize % SLOTS;
-    let lines = SLOTS / LINE;
-    place % lines * LINE + place / lines
+    ghost inside: { next < 4096 },
 }
 
 impl Timeouts {
@@ -48,10 +43,11 @@ impl Timeouts {
     {
         let words = vec![in alloc; 0u64; SLOTS]?;
         let (table, seat) = Table::vacant(alloc, &words, SLOTS, &())?;
-        Ok((Timeouts { table }, TimePass { seat }))
+        Ok((Timeouts { table }, TimePass { seat, next: 0 }))
     }
 
-    /// A pass that has seen as much, and has done nothing.
+    /// A pass that has seen as much, and has done nothing. It looks on from where the old one stopped, and
+    /// the old one from further on, so that the passes of several threads don't come to the same slots.
     pub fn split(&self, pass: &mut TimePass) -> Result<TimePass, AllocError>
         requires { IsOf self.now pass.old }
         ensures own { IsOf self.now pass.new }
@@ -61,7 +57,9 @@ impl Timeouts {
         ensures fresh { IfOk result (λ p. view_of p ≡ record first_view { seen = (view_of pass.old).seen }) }
     {
         let seat = self.table.shared.split_seat::<Cut>(&mut pass.seat);
-        Ok(TimePass { seat })
+        let next = pass.next;
+        pass.next = (next + SPLIT_GAP) % SLOTS;
+        Ok(TimePass { seat, next })
     }
 
     /// Takes in another pass, with all that it has seen and done.
@@ -71,21 +69,23 @@ impl Timeouts {
         ensures own { IsOf self.now pass.new }
         ensures joined { IsJoined (view_of pass.old) (view_of other) (view_of pass.new) }
     {
-        let TimePass { seat } = other;
+        let TimePass { seat, next: _ } = other;
         self.table.shared.join_seat::<Both>(&mut pass.seat, seat);
         self.table.shared.load::<Compare>(&mut pass.seat, 0);
     }
 
-    /// Adds a watch over the opening. It looks at the slots in a row, from the one of the descriptor on and
-    /// round the table, at each at most once.
+    /// Adds a watch over the opening. It looks on from where the last add of the pass stopped and goes round
+    /// the table, to each slot at most once.
     pub fn add(&self, pass: &mut TimePass, o: Opening) -> AddWatch
         requires own { IsOf self.now pass.old }
         ensures own { IsOf self.now pass.new }
         ensures adds { HasAdded o (view_of pass.old) result (view_of pass.new) }
     {
-        let first = first_slot(o.fd);
+        let first = pass.next;
         for count in 0..SLOTS {
-            if let Some(watch) = self.add_at(pass, (first + count) % SLOTS, o) {
+            let place = (first + count) % SLOTS;
+            if let Some(watch) = self.add_at(pass, slot_of(place), o) {
+                pass.next = (place + 1) % SLOTS;
                 return AddWatch::Added(watch);
             }
         }

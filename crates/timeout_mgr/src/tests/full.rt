@@ -42,14 +42,14 @@ fn a_full_table_takes_one_more_after_a_cancel(rt: HostRuntime) -> Result<(), Fai
 fn a_slot_is_used_again_under_the_next_number(rt: HostRuntime) -> Result<(), Fail> {
     let (times, mut pass) = Timeouts::new(rt.alloc())?;
     let mut out = Expired::new(rt.alloc())?;
-    let AddWatch::Added(old) = times.add(&mut pass, opening(5)) else {
-        return Err("no watch")?;
+    let Some(old) = fill(&times, &mut pass) else {
+        return Err("the table is full too early")?;
     };
     times.sweep(&mut pass, &mut out);
     times.sweep(&mut pass, &mut out);
-    assert!(rt; out.pop_first() == Some(opening(5)));
-    let AddWatch::Added(new) = times.add(&mut pass, opening(5)) else {
-        return Err("no second watch")?;
+    assert_eq!(rt; out.len(), SLOTS);
+    let Some(new) = fill(&times, &mut pass) else {
+        return Err("a slot isn't free again")?;
     };
     assert_eq!(rt; new.slot, old.slot);
     assert_eq!(rt; new.number, 1);
@@ -57,19 +57,5 @@ fn a_slot_is_used_again_under_the_next_number(rt: HostRuntime) -> Result<(), Fai
     assert!(rt; matches!(times.cancel(&mut pass, old), CancelOut::Gone));
     assert!(rt; matches!(times.tickle(&mut pass, &new), TickleOut::Alive));
     assert!(rt; matches!(times.cancel(&mut pass, new), CancelOut::Cancelled));
-    Ok(())
-}
-
-#[test]
-fn a_taken_slot_sends_the_next_add_on(rt: HostRuntime) -> Result<(), Fail> {
-    let (times, mut pass) = Timeouts::new(rt.alloc())?;
-    let AddWatch::Added(first) = times.add(&mut pass, opening(4095)) else {
-        return Err("no watch")?;
-    };
-    let AddWatch::Added(second) = times.add(&mut pass, opening(4095)) else {
-        return Err("no second watch")?;
-    };
-    assert_eq!(rt; first.slot, 4095);
-    assert_eq!(rt; second.slot, 0);
     Ok(())
 }

@@ -53,27 +53,19 @@ fn nothing_is_given_of_a_cancelled_watch(rt: HostRuntime) -> Result<(), Fail> {
     Ok(())
 }
 
-/// Adds a watch for each of these descriptors.
-fn add_each(times: &Timeouts, pass: &mut TimePass, fds: &[u16]) -> Result<(), Fail>
-    requires { IsOf times.now pass.old }
-    ensures { IsOf times.now pass.new }
-{
-    for fd in fds {
-        let _watch = added(times.add(pass, Opening { number: 1, fd: *fd }))?;
-    }
-    Ok(())
-}
-
 #[test]
 fn openings_are_given_in_the_order_of_their_slots(rt: HostRuntime) -> Result<(), Fail> {
     let (times, mut pass) = Timeouts::new(rt.alloc())?;
     let mut out = Expired::new(rt.alloc())?;
-    add_each(&times, &mut pass, &[9, 4, 600])?;
+    let mut early = times.split(&mut pass)?;
+    let _third = added(times.add(&mut pass, Opening { number: 1, fd: 9 }))?;
+    let _first = added(times.add(&mut early, Opening { number: 1, fd: 600 }))?;
+    let _second = added(times.add(&mut early, Opening { number: 1, fd: 4 }))?;
     times.sweep(&mut pass, &mut out);
     assert!(rt; out.is_empty());
     times.sweep(&mut pass, &mut out);
     assert_eq!(rt; out.len(), 3);
-    for fd in [4, 9, 600] {
+    for fd in [600, 4, 9] {
         assert!(rt; out.pop_first() == Some(Opening { number: 1, fd }));
     }
     assert!(rt; out.pop_first().is_none());

@@ -1,5 +1,5 @@
 use Rattle.std.proofs.Common.{◌≡◌, [], ◌++◌, subst, arith}
-use Rattle.timeout_mgr.specs.Calls.{AreTaken}
+use Rattle.timeout_mgr.specs.Calls.{AreTaken, IsTakenAt}
 use Rattle.timeout_mgr.proofs.Told.{stays_here, stays_on, then_decides, then_answers, none_taken, next_taken}
 use Rattle.timeout_mgr.proofs.timeouts.Timeouts.add.Goals as goal
 
@@ -17,7 +17,7 @@ loop-count-preserved c = let t = c.loop-count.invariant.taken in let n = c.in_de
       taken = (
         n.0 ++ t.0,
         stays_on t.0 n.0 _ c.loop-count.pass.seat.me.0 _ t.1 n.1,
-        next_taken _ _ _ _ t.2 n.2,
+        next_taken _ _ _ _ t.2 (subst (λ k. IsTakenAt k n.0) c.slot_of.ensures.is n.2),
       );
     }
 
@@ -26,8 +26,8 @@ returns-clause-adds c = let t = c.loop-count.invariant.taken in
     let a = c.loop-count.auto.count-end in
     let b = c.loop-count-test.false in
     let all : c.loop-count.count ≡ 4096 = omega (arith, a, b) in (
-      c.first_slot-first.result,
+      c.args.pass.now.next,
       t.0,
-      subst (λ n. AreTaken c.first_slot-first.result n t.0) all t.2,
+      subst (λ n. AreTaken c.args.pass.now.next n t.0) all t.2,
       then_answers _ _ _ c.loop-count.pass.seat.me.0 _ t.1 c.answer.ensures.answers,
     )

@@ -85,6 +85,7 @@ invariant_of-pass-2 c =
             ∙ (ap (λ m. rest m.1) x.3 ∙ (ap rest t.1 ∙ (c.load-found.ensures.2.1 ∙ c.args.pass.now.rests.1))),
         b.0.told,
       );
+      inside = c.args.pass.now.inside;
     }
 
 pub returns-clause-adds : goal.returns-clause-adds
