@@ -26,7 +26,7 @@ use Rattle.timeout_mgr.specs.declared.word.SlotState.TheVariants.{Free, Making, 
 use Rattle.timeout_mgr.proofs.Places.{still_at, else_at, moves, restage, known, dead, tickle_still, cancel_still, next_use}
 use Rattle.std.proofs.lemmas.Option.{same_Some}
 use Rattle.atomic_table.specs.Table.{Act, carried_after}
-use Rattle.timeout_mgr.specs.Plays.{M, name, Shows, Takes, saw, joined_look, take_try, added, freed, tickle_look, tickle_try, cancel_look, cancel_try, sweep_look, age_try, expire_try, answers}
+use Rattle.timeout_mgr.specs.Plays.{M, name, Shows, Takes, saw, joined_look, take_try, added, freed, tickle_look, tickle_try, cancel_look, cancel_try, end_of, sweep_look, age_try, expire_try, answers}
 use Rattle.timeout_mgr.proofs.Keeps.{St, H, not_at, not_at_free, left_stays, IsFree, told_view, tells, told_ends, told_kept, shows, changes}
 
 some_there : {A : Type 0} (l : List A) (k : ℕ) → k < length l → (a : A) × (get_elem? l k ≡ some a)
@@ -43,6 +43,12 @@ at_get (x ∷ xs) (suc k) h = at_get xs k (omega arith)
 abbrev Out : St → ℕ → M → ℕ → (ℕ → M → Type 0) → ℕ → Type 0
 Out s id me k then x = (w : TimeView) × (a : Act (Option Opening)) × Valid s.homes me.1 a
     × IsKept (stepped s k x id me.1 w a) × then (get_or s.words k 0) (w, carried_after me.1 a)
+
+-- the end of a sweep is no entry
+ends_silent : (before : Option (List Opening)) (given : Option Opening) (items : List Shown)
+    → entries_in (end_of before given ++ items) ≡ entries_in items
+ends_silent None given items = refl
+ends_silent (Some out) given items = refl
 
 live_of : Bool → ℕ
 live_of true = 1
@@ -98,31 +104,32 @@ module _ (s : St) (r : IsKept s) (id : ℕ) (me : M) (at : get_elem? s.views id 
   turns : (u : ℕ) (c : SlotState) (o : Opening) → At r.log k n home_at.0 u c o → IsFree n → (d : WatchEntry)
       → (name_of d).slot ≡ k → (name_of d).number ≡ u → IsWatchAnswer d (before d r.log) → (c' : SlotState) (n' : ℕ)
       → n' ≡ 8 * u + code_of c' → u + used c' ≤ 2 ^ 40
-      → after d (status_at c o) ≡ status_at c' o → ((h : H) → Home c o h → Home c' o h) → (then : ℕ → M → Type 0)
-      → (Shows (Decided d ∷ []) me (told_view r.log (Decided d ∷ []) v0.hand v0, me.1)
-      → then n (told_view r.log (Decided d ∷ []) v0.hand v0, me.1)) → Out s id me k then n'
-  turns u c o a isfree d sl nu fits c' n' w small e home then tell = (
-    told_view r.log (Decided d ∷ []) v0.hand v0,
-    keeps,
-    tt,
-    changes s r id v0 at k n' s.homes (Decided d ∷ []) (told_view r.log (Decided d ∷ []) v0.hand v0) (
-      fits,
-      r.legal,
-    ) refl (λ j h ne x. x)
-        (λ j m h ne p. (p.0, p.1, p.2, else_at r.log j m h p.0 p.1 p.2 p.3 d (λ z. ne (sym z ∙ sl))))
-        (λ h x. (
-          u,
-          c',
-          o,
-          moves r.log k n home_at.0 u c o a d sl nu c' o n' h w small e
-              (home h (subst (Home c o) (some-injective home_at.0 h (sym home_at.1 ∙ x)) a.home)),
-        ))
-        (told_ends s r id v0 at (Decided d ∷ []) v0.hand) (told_kept s r id v0 at (Decided d ∷ []))
-        (left_stays s.words k n' v0.hand (not_at_free s.words k n v0.hand word_at isfree (r.hands id v0 at))
-        (r.hands id v0 at))
-        (λ j v ne x. not_at_free s.words k n v.hand word_at isfree (r.hands j v x)) (inl refl),
-    tell (tells s r id v0 at (Decided d ∷ []) v0.hand (fits, r.legal), refl),
-  )
+      → after d (status_at c o) ≡ status_at c' o → ((h : H) → Home c o h → Home c' o h) → (items : List Shown)
+      → entries_in items ≡ d ∷ [] → (then : ℕ → M → Type 0)
+      → (Shows items me (told_view r.log items v0.hand v0, me.1)
+      → then n (told_view r.log items v0.hand v0, me.1)) → Out s id me k then n'
+  turns u c o a isfree d sl nu fits c' n' w small e home items one then tell =
+      let legal : IsWatchHistory (entries_in items ++ r.log) =
+      subst (λ (l : WatchLog). IsWatchHistory (l ++ r.log)) (sym one) (fits, r.legal) in (
+        told_view r.log items v0.hand v0,
+        keeps,
+        tt,
+        changes s r id v0 at k n' s.homes items (told_view r.log items v0.hand v0) legal refl (λ j h ne x. x)
+            (λ j m h ne p. subst (λ (l : WatchLog). IsPlace (l ++ r.log) j m h) (sym one)
+            (p.0, p.1, p.2, else_at r.log j m h p.0 p.1 p.2 p.3 d (λ z. ne (sym z ∙ sl))))
+            (λ h x. subst (λ (l : WatchLog). IsPlace (l ++ r.log) k n' h) (sym one) (
+              u,
+              c',
+              o,
+              moves r.log k n home_at.0 u c o a d sl nu c' o n' h w small e
+                  (home h (subst (Home c o) (some-injective home_at.0 h (sym home_at.1 ∙ x)) a.home)),
+            ))
+            (told_ends s r id v0 at items v0.hand) (told_kept s r id v0 at items)
+            (left_stays s.words k n' v0.hand (not_at_free s.words k n v0.hand word_at isfree (r.hands id v0 at))
+            (r.hands id v0 at))
+            (λ j v ne x. not_at_free s.words k n v.hand word_at isfree (r.hands j v x)) (inl refl),
+        tell (tells s r id v0 at items v0.hand legal, refl),
+      )
 
   -- a step that takes the slot, with something decided of its watch
   takes_slot : (items : List Shown) → IsWatchHistory (entries_in items ++ r.log)
@@ -197,7 +204,8 @@ module _ (slots id : ℕ) (me : M) (k : ℕ) (inside : k < slots) where
       exchanged n old new (Out s id me k then)
       (λ hit. let e : n ≡ 8 * u + 3 = hit ∙ oe in let a = known r.log k n h p u Inactive e in let sm = a.1.small in
       turns s r id me at k i u Inactive a.0 a.1 (λ v. (omega (arith, e), omega (arith, e)))
-      (Tickled (name k u) true) refl refl (sym (ap is_alive a.1.now)) Active new ne sm refl (λ h x. x) then
+      (Tickled (name k u) true) refl refl (sym (ap is_alive a.1.now)) Active new ne sm refl (λ h x. x)
+      (Decided (Tickled (name k u) true) ∷ []) refl then
       (λ t. inl (inl e, t)))
       (λ miss. elim (ℕ_discrete n (8 * u + 2)) [
         | yes e ↦ let a = known r.log k n h p u Active e in
@@ -230,21 +238,21 @@ module _ (slots id : ℕ) (me : M) (k : ℕ) (inside : k < slots) where
       At r.log k n (home_at s r id me at k i).0 u c o
       → IsFree n → (home_at s r id me at k i).0 ≡ some (Some o) → (d : WatchEntry) → (name_of d).slot ≡ k
       → (name_of d).number ≡ u → IsWatchAnswer d (before d r.log) → after d (status_at c o) ≡ Ended → u + 1 ≤ 2 ^ 40
-      → (new : ℕ) → new ≡ 8 * u + 4 → (then : ℕ → M → Type 0)
-      → (Takes (Decided d ∷ []) k new (Some o) me
-      (told_view r.log (Decided d ∷ []) (Holds k new) me.0, (k, Some o) ∷ me.1)
-      → then n (told_view r.log (Decided d ∷ []) (Holds k new) me.0, (k, Some o) ∷ me.1)) → Out s id me k then new
-  leaves s r at i u c o a f home d sl nu fits e sm new ne then tell =
-      takes_slot s r id me at k i (Decided d ∷ []) (
-        fits,
-        r.legal,
-      ) (λ j m h off p. (p.0, p.1, p.2, else_at r.log j m h p.0 p.1 p.2 p.3 d (λ z. off (sym z ∙ sl)))) f new (
+      → (new : ℕ) → new ≡ 8 * u + 4 → (items : List Shown) → entries_in items ≡ d ∷ [] → (then : ℕ → M → Type 0)
+      → (Takes items k new (Some o) me (told_view r.log items (Holds k new) me.0, (k, Some o) ∷ me.1)
+      → then n (told_view r.log items (Holds k new) me.0, (k, Some o) ∷ me.1)) → Out s id me k then new
+  leaves s r at i u c o a f home d sl nu fits e sm new ne items one then tell =
+      takes_slot s r id me at k i items
+      (subst (λ (l : WatchLog). IsWatchHistory (l ++ r.log)) (sym one) (fits, r.legal))
+      (λ j m h off p. subst (λ (l : WatchLog). IsPlace (l ++ r.log) j m h) (sym one)
+      (p.0, p.1, p.2, else_at r.log j m h p.0 p.1 p.2 p.3 d (λ z. off (sym z ∙ sl)))) f new
+      (subst (λ (l : WatchLog). IsPlace (l ++ r.log) k new maths.none) (sym one) (
         u,
         Leaving,
         o,
         moves r.log k (get_or s.words k 0)
             (home_at s r id me at k i).0 u c o a d sl nu Leaving o new maths.none ne sm e tt,
-      ) (
+      )) (
         u,
         inr ne,
       ) (Some o) home then tell
@@ -260,11 +268,13 @@ module _ (slots id : ℕ) (me : M) (k : ℕ) (inside : k < slots) where
       (λ hit. ⊎_elim
       (λ oe2. let e : n ≡ 8 * u + 2 = hit ∙ oe2 in let a = known r.log k n h p u Active e in
       leaves s r at i u Active a.0 a.1 (λ v. (omega (arith, e), omega (arith, e))) a.1.home
-      (Cancelled (name k u) true) refl refl (sym (ap is_alive a.1.now)) refl a.1.small new ne then
+      (Cancelled (name k u) true) refl refl (sym (ap is_alive a.1.now)) refl a.1.small new ne
+      (Decided (Cancelled (name k u) true) ∷ []) refl then
       (λ t. inl (hit, (a.0, t))))
       (λ oe3. let e : n ≡ 8 * u + 3 = hit ∙ oe3 in let a = known r.log k n h p u Inactive e in
       leaves s r at i u Inactive a.0 a.1 (λ v. (omega (arith, e), omega (arith, e))) a.1.home
-      (Cancelled (name k u) true) refl refl (sym (ap is_alive a.1.now)) refl a.1.small new ne then
+      (Cancelled (name k u) true) refl refl (sym (ap is_alive a.1.now)) refl a.1.small new ne
+      (Decided (Cancelled (name k u) true) ∷ []) refl then
       (λ t. inl (hit, (a.0, t))))
       oe)
       (λ miss. elim (ℕ_discrete n (8 * u + 2)) [
@@ -298,31 +308,39 @@ module _ (slots id : ℕ) (me : M) (k : ℕ) (inside : k < slots) where
       (λ t. inl (hit, t)))
       (λ miss. quiet s r id me at k i (Saw k n ∷ []) refl then (λ t. inr (miss, t)))
 
-  pub ages : (u old new : ℕ) → old ≡ 8 * u + 2 → new ≡ 8 * u + 3
-      → Allows IsKept slots id me k (λ n. either (eqb n old) new n) (age_try u (step slots k old new maths.none) me)
-  ages u old new oe ne s r len at small = let i = within_homes s len in
+  pub ages : (before : Option (List Opening)) (u old new : ℕ) → old ≡ 8 * u + 2 → new ≡ 8 * u + 3
+      → Allows IsKept slots id me k (λ n. either (eqb n old) new n)
+      (age_try before u (step slots k old new maths.none) me)
+  ages before u old new oe ne s r len at small = let i = within_homes s len in
       let n : ℕ = get_or s.words k 0 in
       let p = place s r id me at k i in
       let h : H = (home_at s r id me at k i).0 in
-      let then : ℕ → M → Type 0 = age_try u (step slots k old new maths.none) me in
+      let then : ℕ → M → Type 0 = age_try before u (step slots k old new maths.none) me in
       exchanged n old new (Out s id me k then)
       (λ hit. let e : n ≡ 8 * u + 2 = hit ∙ oe in let a = known r.log k n h p u Active e in let sm = a.1.small in
       turns s r id me at k i u Active a.0 a.1 (λ v. (omega (arith, e), omega (arith, e)))
-      (Swept (name k u) None) refl refl (a.0, a.1.now) Inactive new ne sm refl (λ h x. x) then (λ t. inl (hit, t)))
-      (λ miss. quiet s r id me at k i (Missed k old n ∷ []) refl then (λ t. inr (miss, t)))
+      (Swept (name k u) None) refl refl (a.0, a.1.now) Inactive new ne sm refl (λ h x. x)
+      (end_of before None ++ Decided (Swept (name k u) None) ∷ []) (ends_silent before None _) then
+      (λ t. inl (hit, t)))
+      (λ miss. quiet s r id me at k i (end_of before None ++ Missed k old n ∷ []) (ends_silent before None _) then
+      (λ t. inr (miss, t)))
 
-  pub expires : (u old new : ℕ) → old ≡ 8 * u + 3 → new ≡ 8 * u + 4
-      → Allows IsKept slots id me k (λ n. either (eqb n old) new n) (expire_try u (step slots k old new maths.none) me)
-  expires u old new oe ne s r len at small = let i = within_homes s len in
+  pub expires : (before : Option (List Opening)) (u old new : ℕ) → old ≡ 8 * u + 3 → new ≡ 8 * u + 4
+      → Allows IsKept slots id me k (λ n. either (eqb n old) new n)
+      (expire_try before u (step slots k old new maths.none) me)
+  expires before u old new oe ne s r len at small = let i = within_homes s len in
       let n : ℕ = get_or s.words k 0 in
       let p = place s r id me at k i in
       let h : H = (home_at s r id me at k i).0 in
-      let then : ℕ → M → Type 0 = expire_try u (step slots k old new maths.none) me in
+      let then : ℕ → M → Type 0 = expire_try before u (step slots k old new maths.none) me in
       exchanged n old new (Out s id me k then)
       (λ hit. let e : n ≡ 8 * u + 3 = hit ∙ oe in let a = known r.log k n h p u Inactive e in
       leaves s r at i u Inactive a.0 a.1 (λ v. (omega (arith, e), omega (arith, e))) a.1.home
-      (Swept (name k u) (Some a.0)) refl refl a.1.now refl a.1.small new ne then (λ t. inl (hit, (a.0, t))))
-      (λ miss. quiet s r id me at k i (Missed k old n ∷ []) refl then (λ t. inr (miss, t)))
+      (Swept (name k u) (Some a.0)) refl refl a.1.now refl a.1.small new ne
+      (end_of before (Some a.0) ++ Decided (Swept (name k u) (Some a.0)) ∷ []) (ends_silent before (Some a.0) _) then
+      (λ t. inl (hit, (a.0, t))))
+      (λ miss. quiet s r id me at k i (end_of before None ++ Missed k old n ∷ []) (ends_silent before None _) then
+      (λ t. inr (miss, t)))
 
   -- a store by the pass that has the slot in its hand, which makes a watch
   pub births : (u new : ℕ) (o : Opening) → me.0.hand ≡ Holds k (8 * u + 1) → me.1 ≡ (k, Some o) ∷ rest me.1
@@ -402,30 +420,31 @@ module _ (slots id : ℕ) (me : M) (k : ℕ) (inside : k < slots) where
         (refl, refl),
       )
 
-  pub sweep_looks : Allows IsKept slots id me k (λ n. n) (sweep_look (step slots k 0 0 maths.none) me)
-  sweep_looks s r len at small = let i = within_homes s len in
+  pub sweep_looks : (before : Option (List Opening))
+      → Allows IsKept slots id me k (λ n. n) (sweep_look before (step slots k 0 0 maths.none) me)
+  sweep_looks before s r len at small = let i = within_homes s len in
       let p = place s r id me at k i in
-      by_stage s r at i p.0 p.1 p.2 p.3
+      by_stage before s r at i p.0 p.1 p.2 p.3
     where
-      by_stage : (s : St) (r : IsKept s) (at : get_elem? s.views id ≡ some me.0) (i : k
+      by_stage : (before : Option (List Opening)) (s : St) (r : IsKept s) (at : get_elem? s.views id ≡ some me.0) (i : k
           < length s.homes) (u : ℕ) (c : SlotState) (o : Opening)
           → At r.log k (get_or s.words k 0) (home_at s r id me at k i).0 u c o
-          → Out s id me k (sweep_look (step slots k 0 0 maths.none) me) (get_or s.words k 0)
-      by_stage s r at i u Free o a = let e = a.word in
-          quiet s r id me at k i (Passed k (get_or s.words k 0) ∷ []) refl
-          (sweep_look (step slots k 0 0 maths.none) me)
+          → Out s id me k (sweep_look before (step slots k 0 0 maths.none) me) (get_or s.words k 0)
+      by_stage before s r at i u Free o a = let e = a.word in
+          quiet s r id me at k i (end_of before None ++ Passed k (get_or s.words k 0) ∷ []) (ends_silent before None _)
+          (sweep_look before (step slots k 0 0 maths.none) me)
           (λ t. inr ((λ v. ((λ z. omega (arith, e, z)), (λ z. omega (arith, e, z)))), t))
-      by_stage s r at i u Making o a = let e = a.word in
-          quiet s r id me at k i (Passed k (get_or s.words k 0) ∷ []) refl
-          (sweep_look (step slots k 0 0 maths.none) me)
+      by_stage before s r at i u Making o a = let e = a.word in
+          quiet s r id me at k i (end_of before None ++ Passed k (get_or s.words k 0) ∷ []) (ends_silent before None _)
+          (sweep_look before (step slots k 0 0 maths.none) me)
           (λ t. inr ((λ v. ((λ z. omega (arith, e, z)), (λ z. omega (arith, e, z)))), t))
-      by_stage s r at i u Active o a = let sm = a.small in
-          quiet s r id me at k i [] refl (sweep_look (step slots k 0 0 maths.none) me)
+      by_stage before s r at i u Active o a = let sm = a.small in
+          quiet s r id me at k i [] refl (sweep_look before (step slots k 0 0 maths.none) me)
           (λ t. inl ((u, omega (arith, sm), inl a.word), t))
-      by_stage s r at i u Inactive o a = let sm = a.small in
-          quiet s r id me at k i [] refl (sweep_look (step slots k 0 0 maths.none) me)
+      by_stage before s r at i u Inactive o a = let sm = a.small in
+          quiet s r id me at k i [] refl (sweep_look before (step slots k 0 0 maths.none) me)
           (λ t. inl ((u, omega (arith, sm), inr a.word), t))
-      by_stage s r at i u Leaving o a = let e = a.word in
-          quiet s r id me at k i (Passed k (get_or s.words k 0) ∷ []) refl
-          (sweep_look (step slots k 0 0 maths.none) me)
+      by_stage before s r at i u Leaving o a = let e = a.word in
+          quiet s r id me at k i (end_of before None ++ Passed k (get_or s.words k 0) ∷ []) (ends_silent before None _)
+          (sweep_look before (step slots k 0 0 maths.none) me)
           (λ t. inr ((λ v. ((λ z. omega (arith, e, z)), (λ z. omega (arith, e, z)))), t))

@@ -1,6 +1,7 @@
 -- What the calls say, from what their steps told.
-use Rattle.std.proofs.Common.{◌≡◌, ◌≢◌, ℕ, suc, ◌+◌, ◌*◌, ◌%◌, ◌^◌, ◌<◌, ◌≤◌, length, ◌⊎◌, inl, inr, ⊎_elim, List, [], ◌∷◌, ◌++◌, true, false, refl, sym, ap, ◌∙◌, subst, arith}
-use Rattle.std.specs.Prelude.{Option, Some, None}
+use Rattle.std.proofs.Common.{◌≡◌, ◌≢◌, ℕ, suc, ◌+◌, ◌*◌, ◌%◌, ◌^◌, ◌<◌, ◌≤◌, length, ◌⊎◌, inl, inr, ⊎_elim, List, [], ◌∷◌, ◌++◌, true, false, refl, sym, ap, ◌∙◌, subst, eq-eqb, arith}
+use Rattle.std.specs.Prelude.{Option, Some, None, ◌==◌, if◌then◌else◌}
+use Rattle.std.proofs.lemmas.Bool.{ne_eqb}
 use Rattle.std.proofs.lemmas.List.{append_assoc, append-nil, length-append}
 use Rattle.atomic_table.specs.Table.{step, rest}
 use mathlib.Core.Option as maths
@@ -15,12 +16,12 @@ use Rattle.timeout_mgr.specs.declared.view.TimeView.{TimeView}
 use Rattle.timeout_mgr.specs.Watches.{WatchLog}
 use Rattle.timeout_mgr.specs.Rule.{Tells}
 use Rattle.timeout_mgr.specs.Passes.{entries_in, IsPastOf, IsSound}
-use Rattle.timeout_mgr.specs.Plays.{M, name, Takes, tickle_look, tickle_try, cancel_look, cancel_try, take_try, age_try, expire_try, sweep_look}
+use Rattle.timeout_mgr.specs.Plays.{M, name, Takes, tickle_look, tickle_try, cancel_look, cancel_try, take_try, end_of, age_try, expire_try, sweep_look}
 use Rattle.timeout_mgr.specs.declared.view.TimeCall.{TimeCall}
 use Rattle.timeout_mgr.specs.declared.view.TimeCall.TheVariants.{Sweep}
 use Rattle.timeout_mgr.specs.Passes.{calls_in, calls_of, call_of, decided_call}
 use Rattle.timeout_mgr.specs.Calls.{GoesOn, Decides, DecidesNothing, AreTaken, IsTakenAt, slot_at, SweptSlot, HasSwept, IsRound, list_of}
-use Rattle.timeout_mgr.specs.OneSlot.{Stays, ShowsOne, SweepsAt, Answers}
+use Rattle.timeout_mgr.specs.OneSlot.{Stays, ShowsAll, SweepsAt, Answers}
 use Rattle.timeout_mgr.proofs.Keeps.{entries_append, calls_append}
 
 pub goes_told : (items : List Shown) (hd : Holding) (v w : TimeView) → Tells items hd v w → GoesOn items v w
@@ -238,28 +239,29 @@ pub next_taken : (first k : ℕ) (older newer : List Shown) → AreTaken first k
 next_taken first k older newer a t =
     subst (λ (n : ℕ). AreTaken first n (newer ++ older)) (omega arith) (taken_suc first k older newer a t)
 
-pub one_told : (item : Shown) (hd : Holding) (v w : TimeView) → Tells (item ∷ []) hd v w → ShowsOne item v w
-one_told item hd v w t =
+pub all_told : (items : List Shown) (hd : Holding) (v w : TimeView) → Tells items hd v w → ShowsAll items v w
+all_told items hd v w t =
     record {
-      goes = goes_told (item ∷ []) hd v w t;
+      goes = goes_told items hd v w t;
       later = t.later;
       newest = t.seen;
       sound =
           record { legal = t.legal; own = t.own };
     }
 
-pub then_one : (item : Shown) (v u w : TimeView) → Stays [] v u → ShowsOne item u w → ShowsOne item v w
-then_one item v u w x y = record {
-  goes = goes_on [] (item ∷ []) v u w x.goes y.goes;
+then_all : (items : List Shown) (v u w : TimeView) → Stays [] v u → ShowsAll items u w → ShowsAll items v w
+then_all items v u w x y = record {
+  goes = subst (λ (l : List Shown). GoesOn l v w) (append-nil items) (goes_on [] items v u w x.goes y.goes);
   later = y.later ++ x.goes.onward.0;
   newest = y.newest
-      ∙ ap (λ (l : WatchLog). entries_in (item ∷ []) ++ l) (ap (λ (l : WatchLog). y.later ++ l) x.goes.onward.1
+      ∙ ap (λ (l : WatchLog). entries_in items ++ l) (ap (λ (l : WatchLog). y.later ++ l) x.goes.onward.1
       ∙ sym (append_assoc y.later x.goes.onward.0 v.seen));
   sound = y.sound;
 }
 
-pub freed_one : (item : Shown) (v u w : TimeView) → ShowsOne item v u → w ≡ record u { hand = Idle } → ShowsOne item v w
-freed_one item v u w x e = subst (ShowsOne item v) (sym e)
+freed_all : (items : List Shown) (v u w : TimeView) → ShowsAll items v u → w ≡ record u { hand = Idle }
+    → ShowsAll items v w
+freed_all items v u w x e = subst (ShowsAll items v) (sym e)
     (record {
       goes = record { kept = x.goes.kept; onward = x.goes.onward };
       later = x.later;
@@ -268,35 +270,46 @@ freed_one item v u w x e = subst (ShowsOne item v) (sym e)
           record { legal = x.sound.legal; own = x.sound.own };
     })
 
-module _ (u k old : ℕ) (m : M) (n : ℕ) (m' : M) where
-  pub aged : age_try u (step 0 k old 0 maths.none) m n m' → SweepsAt k m.0 None m'.0
+module _ (before : Option (List Opening)) (u k old : ℕ) (m : M) (n : ℕ) (m' : M) where
+  pub aged : age_try before u (step 0 k old 0 maths.none) m n m' → SweepsAt k before m.0 None m'.0
   aged t =
       ⊎_elim (λ x. (
         Decided (Swept (name k u) None),
         inl (u, refl, refl),
-        one_told (Decided (Swept (name k u) None)) m.0.hand m.0 m'.0 x.1.0,
+        all_told (end_of before None ++ Decided (Swept (name k u) None) ∷ []) m.0.hand m.0 m'.0 x.1.0,
       ))
       (λ x. (
         Missed k old n,
         inr (inr (inr (old, n, x.0, refl, refl))),
-        one_told (Missed k old n) m.0.hand m.0 m'.0 x.1.0,
+        all_told (end_of before None ++ Missed k old n ∷ []) m.0.hand m.0 m'.0 x.1.0,
       )) t
 
-module _ (u k old new : ℕ) (m : M) (n : ℕ) (m' : M) where
-  pub exp_hit : expire_try u (step 0 k old new maths.none) m n m' → n ≡ old
-      → (o : Opening) × Takes (Decided (Swept (name k u) (Some o)) ∷ []) k new (Some o) m m'
+module _ (before : Option (List Opening)) (u k old new : ℕ) (m : M) (n : ℕ) (m' : M) where
+  pub exp_hit : expire_try before u (step 0 k old new maths.none) m n m' → n ≡ old
+      → (o : Opening) × Takes (end_of before (Some o) ++ Decided (Swept (name k u) (Some o)) ∷ []) k new (Some o) m m'
   exp_hit t e = ⊎_elim (λ x. x.1) (λ x. absurd (x.0 e)) t
 
-  pub exp_miss : expire_try u (step 0 k old new maths.none) m n m' → n ≢ old → SweepsAt k m.0 None m'.0
+  pub exp_miss : expire_try before u (step 0 k old new maths.none) m n m' → n ≢ old → SweepsAt k before m.0 None m'.0
   exp_miss t e =
       ⊎_elim (λ x. absurd (e x.0)) (λ x. (
         Missed k old n,
         inr (inr (inr (old, n, x.0, refl, refl))),
-        one_told (Missed k old n) m.0.hand m.0 m'.0 x.1.0,
+        all_told (end_of before None ++ Missed k old n ∷ []) m.0.hand m.0 m'.0 x.1.0,
       )) t
 
-module _ (k : ℕ) (m : M) (n : ℕ) (m' : M) where
-  pub look_live : sweep_look (step 0 k 0 0 maths.none) m n m' → (u : ℕ) → (n ≡ 8 * u + 2) ⊎ (n ≡ 8 * u + 3)
+-- the slot is free again whose opening was given
+pub gave : (before : Option (List Opening)) (u k : ℕ) (o : Opening) (given : Option Opening) (v x w : TimeView)
+    → given ≡ Some o → ShowsAll (end_of before (Some o) ++ Decided (Swept (name k u) (Some o)) ∷ []) v x
+    → w ≡ record x { hand = Idle } → SweepsAt k before v given w
+gave before u k o given v x w e s f = let item : Shown = Decided (Swept (name k u) (Some o)) in (
+  item,
+  inr (inl (u, o, refl, e)),
+  subst (λ (g : Option Opening). ShowsAll (end_of before g ++ item ∷ []) v w) (sym e)
+      (freed_all (end_of before (Some o) ++ item ∷ []) v x w s f),
+)
+
+module _ (before : Option (List Opening)) (k : ℕ) (m : M) (n : ℕ) (m' : M) where
+  pub look_live : sweep_look before (step 0 k 0 0 maths.none) m n m' → (u : ℕ) → (n ≡ 8 * u + 2) ⊎ (n ≡ 8 * u + 3)
       → Stays [] m.0 m'.0 × (u < 2 ^ 40)
   look_live t u e = ⊎_elim (λ x. let lt = x.0.1 in (
     stays_told [] m.0.hand m.0 m'.0 refl refl x.1.0,
@@ -305,9 +318,14 @@ module _ (k : ℕ) (m : M) (n : ℕ) (m' : M) where
   ))
       (λ x. absurd (⊎_elim (λ a. (x.0 u).0 a) (λ a. (x.0 u).1 a) e)) t
 
-  pub look_dead : sweep_look (step 0 k 0 0 maths.none) m n m' → n % 8 ≢ 2 → n % 8 ≢ 3 → SweepsAt k m.0 None m'.0
+  pub look_dead : sweep_look before (step 0 k 0 0 maths.none) m n m' → n % 8 ≢ 2 → n % 8 ≢ 3
+      → SweepsAt k before m.0 None m'.0
   look_dead t a b = ⊎_elim (λ x. absurd (⊎_elim (λ e. a (omega (arith, e))) (λ e. b (omega (arith, e))) x.0.2))
-      (λ x. (Passed k n, inr (inr (inl (n, x.0, refl, refl))), one_told (Passed k n) m.0.hand m.0 m'.0 x.1.0)) t
+      (λ x. (
+        Passed k n,
+        inr (inr (inl (n, x.0, refl, refl))),
+        all_told (end_of before None ++ Passed k n ∷ []) m.0.hand m.0 m'.0 x.1.0,
+      )) t
 
 abbrev value_of : Option Opening → List (ℕ × Option Opening) → Option Opening
 value_of x [] = x
@@ -317,9 +335,9 @@ pub same_value : (k : ℕ) (l xs ys : List (ℕ × Option Opening)) (a b : Optio
     → l ≡ (k, b) ∷ ys → a ≡ b
 same_value k l xs ys a b e f = ap (value_of None) (sym e ∙ f)
 
-pub then_sweeps : (k : ℕ) (given : Option Opening) (v u w : TimeView) → Stays [] v u → SweepsAt k u given w
-    → SweepsAt k v given w
-then_sweeps k given v u w s t = (t.0, t.1, then_one t.0 v u w s t.2)
+pub then_sweeps : (k : ℕ) (before : Option (List Opening)) (given : Option Opening) (v u w : TimeView) → Stays [] v u
+    → SweepsAt k before u given w → SweepsAt k before v given w
+then_sweeps k before given v u w s t = (t.0, t.1, then_all (end_of before given ++ t.0 ∷ []) v u w s t.2)
 
 pub no_round : IsRound 0 [] []
 unfolding IsRound
@@ -345,26 +363,40 @@ ends_none k given item t =
     ⊎_elim (λ x. ap call_of x.1)
     (λ y. ⊎_elim (λ x. ap call_of x.2) (λ z. ⊎_elim (λ x. ap call_of x.2) (λ x. ap call_of x.3) z) y) t
 
+-- so far a sweep went through so many slots, gave these openings, and didn't end
 abbrev pub Rounds : TimeView → ℕ → List Opening → TimeView → Type 0
 Rounds v k out w = (items : List Shown) × GoesOn items v w × IsRound k items out × (calls_in items ≡ [])
 
-pub swept_more : (k : ℕ) (out next : List Opening) (given : Option Opening) (v0 v w : TimeView) → Rounds v0 k out v
-    → SweepsAt k v given w → next ≡ out ++ list_of given → length out ≤ k
-    → Rounds v0 (k + 1) next w × (length next ≤ k + 1)
-swept_more k out next given v0 v w r s e few = (
-  (
-    s.0 ∷ r.0,
-    goes_on r.0 (s.0 ∷ []) v0 v w r.1 s.2.goes,
-    subst (IsRound (k + 1) (s.0 ∷ r.0)) (sym e) (next_round k s.0 r.0 given out r.2 s.1),
-    ap (λ (l : List TimeCall). l ++ call_of s.0) r.3 ∙ ends_none k given s.0 s.1,
-  ),
-  (let a = ap length e in let b = length-append out (list_of given) in let c = at_most given in
-      omega (arith, a, b, c, few)),
-)
+-- how a sweep's look at this slot ends it, which gave these openings before
+abbrev pub before_at : ℕ → List Opening → Option (List Opening)
+before_at k out = if k == 4095 then Some out else None
+
+ends_at : (k : ℕ) (out : List Opening) → k ≡ 4095 → before_at k out ≡ Some out
+ends_at k out e = ap (λ b. if b then Some out else None) (eq-eqb k 4095 e)
+
+goes_at : (k : ℕ) (out : List Opening) → k ≢ 4095 → before_at k out ≡ None
+goes_at k out e = ap (λ b. if b then Some out else None) (ne_eqb k 4095 e)
+
+pub few_more : (k : ℕ) (out next : List Opening) (given : Option Opening) → next ≡ out ++ list_of given
+    → length out ≤ k → length next ≤ k + 1
+few_more k out next given e few = let a = ap length e in
+    let b = length-append out (list_of given) in
+    let c = at_most given in
+    omega (arith, a, b, c, few)
   where
     at_most : (x : Option Opening) → length (list_of x) ≤ 1
     at_most None = omega arith
     at_most (Some o) = omega arith
+
+pub swept_more : (k : ℕ) (out next : List Opening) (given : Option Opening) (v0 v w : TimeView) → Rounds v0 k out v
+    → SweepsAt k (before_at k out) v given w → next ≡ out ++ list_of given → k + 1 < 4096 → Rounds v0 (k + 1) next w
+swept_more k out next given v0 v w r t e h = let off : k ≢ 4095 = λ z. omega (arith, z, h) in
+    let s = subst (λ b. SweepsAt k b v given w) (goes_at k out off) t in (
+      s.0 ∷ r.0,
+      goes_on r.0 (s.0 ∷ []) v0 v w r.1 s.2.goes,
+      subst (IsRound (k + 1) (s.0 ∷ r.0)) (sym e) (next_round k s.0 r.0 given out r.2 s.1),
+      ap (λ (l : List TimeCall). l ++ call_of s.0) r.3 ∙ ends_none k given s.0 s.1,
+    )
 
 pub round_here : (v : TimeView) (out : List Opening) → out ≡ [] → Rounds v 0 out v × (length out ≤ 0)
 round_here v out e = (
@@ -373,12 +405,25 @@ round_here v out e = (
       omega (arith, a)),
 )
 
-pub swept : (v u w : TimeView) (out : List Opening) (k : ℕ) → k ≡ 4096 → Rounds v k out u → Answers (Sweep out) u w
-    → HasSwept v out w
-swept v u w out k e t a = record {
-  items = t.0;
-  round = subst (λ n. IsRound n t.0 out) e t.2;
-  goes = goes_on t.0 (Answered (Sweep out) ∷ []) v u w t.1 a.goes;
-  call = ended_so (Sweep out) t.0 v u w t.1 t.3 a;
-  sound = a.sound;
-}
+-- a call that ends so, with items that end none below
+ended_here : (c : TimeCall) (items : List Shown) (v w : TimeView) → GoesOn (Answered c ∷ items) v w
+    → calls_in items ≡ [] → calls_of w ≡ calls_of v ++ c ∷ []
+ended_here c items v w g none = ap calls_in g.kept
+    ∙ ap (λ (l : List TimeCall). l ++ c ∷ []) (calls_append items v.kept
+    ∙ (ap (λ (l : List TimeCall). calls_of v ++ l) none ∙ append-nil (calls_of v)))
+
+pub swept_last : (k : ℕ) (out next : List Opening) (given : Option Opening) (v0 v w : TimeView) → Rounds v0 k out v
+    → SweepsAt k (before_at k out) v given w → next ≡ out ++ list_of given → k ≡ 4095 → HasSwept v0 next w
+swept_last k out next given v0 v w r t e h =
+    let s = subst (λ b. SweepsAt k b v given w) (ends_at k out h) t in
+    let all : List Opening = out ++ list_of given in
+    let items : List Shown = s.0 ∷ r.0 in
+    let goes = goes_on r.0 (Answered (Sweep all) ∷ s.0 ∷ []) v0 v w r.1 s.2.goes in
+    let none = ap (λ (l : List TimeCall). l ++ call_of s.0) r.3 ∙ ends_none k given s.0 s.1 in
+    subst (λ l. HasSwept v0 l w) (sym e) (record {
+      items = items;
+      round = subst (λ n. IsRound n items all) (omega (arith, h)) (next_round k s.0 r.0 given out r.2 s.1);
+      goes = goes;
+      call = ended_here (Sweep all) items v0 w goes none;
+      sound = s.2.sound;
+    })

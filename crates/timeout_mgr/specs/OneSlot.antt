@@ -14,6 +14,7 @@ use Rattle.timeout_mgr.specs.Watches.{WatchLog}
 use Rattle.timeout_mgr.specs.Passes.{IsSound, entries_in, calls_in}
 use Rattle.timeout_mgr.specs.Shown.{ShowsAlive}
 use Rattle.timeout_mgr.specs.Calls.{GoesOn, Decides, IsTakenAt, SweptSlot, name_of_watch}
+use Rattle.timeout_mgr.specs.Plays.{end_of}
 
 -- nothing was decided, and no call ended
 pub record Stays (items : List Shown) (v w : TimeView) : Type 0 where
@@ -32,16 +33,17 @@ abbrev pub AddsAt : ℕ → Opening → TimeView → Option Watch → TimeView �
 AddsAt k o v (Some x) w = Decides (Added (name_of_watch x) o) v w
 AddsAt k o v None w = (items : List Shown) × Stays items v w × IsTakenAt k items
 
--- A step that showed this item. What it decided, if anything, is the newest of a history in which every entry has its answer
-pub record ShowsOne (item : Shown) (v w : TimeView) : Type 0 where
-  pub goes : GoesOn (item ∷ []) v w
+-- A step that showed these items. What it decided, if anything, is the newest of a history in which every entry has its answer
+pub record ShowsAll (items : List Shown) (v w : TimeView) : Type 0 where
+  pub goes : GoesOn items v w
   pub later : WatchLog
-  pub newest : w.seen ≡ entries_in (item ∷ []) ++ (later ++ v.seen)
+  pub newest : w.seen ≡ entries_in items ++ (later ++ v.seen)
   pub sound : IsSound w
 
--- a sweep at one slot
-abbrev pub SweepsAt : ℕ → TimeView → Option Opening → TimeView → Type 0
-SweepsAt k v given w = (item : Shown) × SweptSlot k given item × ShowsOne item v w
+-- a sweep at one slot, which at the last slot ends, by the openings that it gave before
+abbrev pub SweepsAt : ℕ → Option (List Opening) → TimeView → Option Opening → TimeView → Type 0
+SweepsAt k before v given w =
+    (item : Shown) × SweptSlot k given item × ShowsAll (end_of before given ++ item ∷ []) v w
 
 -- the call ended with this answer, which is all that its last step showed
 pub record Answers (c : TimeCall) (v w : TimeView) : Type 0 where

@@ -1,5 +1,5 @@
 -- Inner: what each kind of atomic step tells its pass.
-use Rattle.std.specs.Prelude.{◌≡◌, ◌≢◌, ℕ, ◌^◌, ◌<◌, ◌⊎◌, List, [], ◌∷◌, true, false, Option, Some, None}
+use Rattle.std.specs.Prelude.{◌≡◌, ◌≢◌, ℕ, ◌^◌, ◌<◌, ◌⊎◌, List, [], ◌∷◌, ◌++◌, true, false, Option, Some, None}
 use Rattle.atomic_table.specs.Table.{Me, Step, rest}
 use Rattle.reg_keys.specs.declared.Opening.{Opening}
 use Rattle.timeout_mgr.specs.declared.view.WatchEntry.TheVariants.{Added, Tickled, Cancelled, Swept}
@@ -7,10 +7,12 @@ use Rattle.timeout_mgr.specs.declared.view.WatchName.{WatchName}
 use Rattle.timeout_mgr.specs.declared.view.Shown.{Shown}
 use Rattle.timeout_mgr.specs.declared.view.Shown.TheVariants.{Decided, Passed, Missed, Saw, Tried, Answered}
 use Rattle.timeout_mgr.specs.declared.view.TimeCall.{TimeCall}
+use Rattle.timeout_mgr.specs.declared.view.TimeCall.TheVariants.{Sweep}
 use Rattle.timeout_mgr.specs.declared.view.Holding.TheVariants.{Idle, Holds}
 use Rattle.timeout_mgr.specs.declared.view.TimeView.{TimeView}
 use Rattle.timeout_mgr.specs.Shown.{active_word, inactive_word}
 use Rattle.timeout_mgr.specs.Rule.{Tells}
+use Rattle.timeout_mgr.specs.Calls.{list_of}
 
 -- a pass's seat: what it knows, and the slots that are out with it
 abbrev pub M : Type 0
@@ -74,21 +76,30 @@ cancel_try u st m n m' = ((n ≡ st.first)
     ⊎ ((n ≢ st.first) × ((n ≡ active_word u) ⊎ (n ≡ inactive_word u)) × Shows (Tried st.word st.first n ∷ []) m m')
     ⊎ ((n ≢ active_word u) × (n ≢ inactive_word u) × Shows (Decided (Cancelled (name st.word u) false) ∷ []) m m')
 
+-- what a sweep's step shows besides what it shows of its slot, where it gave this opening: nothing, or at the last slot the end of the sweep, by the openings that it gave before
+abbrev pub end_of : Option (List Opening) → Option Opening → List Shown
+end_of None given = []
+end_of (Some before) given = Answered (Sweep (before ++ list_of given)) ∷ []
+
 -- a load by a sweep decides where it finds neither active nor inactive
-abbrev pub sweep_look : Step (Option Opening) → M → ℕ → M → Type 0
-sweep_look st m n m' = (((u : ℕ) × (u < 2 ^ 40) × ((n ≡ active_word u) ⊎ (n ≡ inactive_word u))) × Shows [] m m')
-    ⊎ (((u : ℕ) → (n ≢ active_word u) × (n ≢ inactive_word u)) × Shows (Passed st.word n ∷ []) m m')
+abbrev pub sweep_look : Option (List Opening) → Step (Option Opening) → M → ℕ → M → Type 0
+sweep_look before st m n m' =
+    (((u : ℕ) × (u < 2 ^ 40) × ((n ≡ active_word u) ⊎ (n ≡ inactive_word u))) × Shows [] m m')
+    ⊎ (((u : ℕ) → (n ≢ active_word u) × (n ≢ inactive_word u))
+    × Shows (end_of before None ++ Passed st.word n ∷ []) m m')
 
 -- an exchange by a sweep from active to inactive
-abbrev pub age_try : ℕ → Step (Option Opening) → M → ℕ → M → Type 0
-age_try u st m n m' = ((n ≡ st.first) × Shows (Decided (Swept (name st.word u) None) ∷ []) m m')
-    ⊎ ((n ≢ st.first) × Shows (Missed st.word st.first n ∷ []) m m')
+abbrev pub age_try : Option (List Opening) → ℕ → Step (Option Opening) → M → ℕ → M → Type 0
+age_try before u st m n m' =
+    ((n ≡ st.first) × Shows (end_of before None ++ Decided (Swept (name st.word u) None) ∷ []) m m')
+    ⊎ ((n ≢ st.first) × Shows (end_of before None ++ Missed st.word st.first n ∷ []) m m')
 
 -- an exchange by a sweep from inactive to leaving takes the opening
-abbrev pub expire_try : ℕ → Step (Option Opening) → M → ℕ → M → Type 0
-expire_try u st m n m' = ((n ≡ st.first)
-    × ((o : Opening) × Takes (Decided (Swept (name st.word u) (Some o)) ∷ []) st.word st.second (Some o) m m'))
-    ⊎ ((n ≢ st.first) × Shows (Missed st.word st.first n ∷ []) m m')
+abbrev pub expire_try : Option (List Opening) → ℕ → Step (Option Opening) → M → ℕ → M → Type 0
+expire_try before u st m n m' = ((n ≡ st.first)
+    × ((o : Opening) × Takes (end_of before (Some o) ++ Decided (Swept (name st.word u) (Some o)) ∷ [])
+    st.word st.second (Some o) m m'))
+    ⊎ ((n ≢ st.first) × Shows (end_of before None ++ Missed st.word st.first n ∷ []) m m')
 
 -- a load that ends a call with this answer
 abbrev pub answers : TimeCall → Step (Option Opening) → M → ℕ → M → Type 0

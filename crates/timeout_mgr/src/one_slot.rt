@@ -3,9 +3,10 @@
 ghost use Rattle.std.specs.Prelude.{◌≡◌, ◌<◌, ◌≤◌, ◌^◌, None};
 ghost use Rattle.timeout_mgr.specs.Word.{bits_of};
 
+use crate::expired::Expired;
 use crate::limits::USES;
 use crate::plays::{
-    Age, Answer, Answering, Birth, CancelLook, CancelTry, Expire, Numbered, Release, Saw,
+    Age, Answer, Answering, Birth, CancelLook, CancelTry, Ending, Expire, Numbered, Release, Saw,
     SweepLook, Take, TickleLook, TickleTry,
 };
 use crate::timeouts::{TimePass, Timeouts};
@@ -159,51 +160,62 @@ impl Timeouts {
         Left::Gone
     }
 
-    /// What a sweep does at this slot. It gives the opening of the watch that it ended.
-    pub(crate) fn sweep_at(&self, pass: &mut TimePass, slot: usize) -> Option<Opening>
+    /// What a sweep does at this slot. It gives the opening of the watch that it ended. The openings that the
+    /// sweep gave before are there for the proof alone: by them the caller picks how the sweep ends.
+    pub(crate) fn sweep_at<E: Ending>(
+        &self,
+        pass: &mut TimePass,
+        slot: usize,
+        _before: &Expired,
+    ) -> Option<Opening>
         requires own { IsOf self.now pass.old }
         requires inside { slot < 4096 }
         ensures own { IsOf self.now pass.new }
-        ensures sweeps { SweepsAt slot (view_of pass.old) result (view_of pass.new) }
+        ensures sweeps { SweepsAt slot E.before (view_of pass.old) result (view_of pass.new) }
     {
-        let found = self.table.shared.load::<SweepLook>(&mut pass.seat, slot);
+        let found = self.table.shared.load::<SweepLook<E>>(&mut pass.seat, slot);
         let Word {
             uses: number,
             state,
         } = Word::of_bits(found);
         match state {
             SlotState::Active => {
-                self.age::<Brand>(pass, slot, number);
+                self.age::<E, Brand>(pass, slot, number);
                 None
             }
-            SlotState::Inactive => self.expire::<Brand>(pass, slot, number),
+            SlotState::Inactive => self.expire::<E, Brand>(pass, slot, number),
             SlotState::Free | SlotState::Making | SlotState::Leaving => None,
         }
     }
 
     /// One exchange from active to inactive.
-    fn age<N: Numbered>(&self, pass: &mut TimePass, slot: usize, number: u64)
+    fn age<E: Ending, N: Numbered>(&self, pass: &mut TimePass, slot: usize, number: u64)
         requires own { IsOf self.now pass.old }
         requires inside { slot < 4096 }
         requires number { (N.number ≡ number) × (number < 2 ^ 40) }
         ensures own { IsOf self.now pass.new }
-        ensures sweeps { SweepsAt slot (view_of pass.old) None (view_of pass.new) }
+        ensures sweeps { SweepsAt slot E.before (view_of pass.old) None (view_of pass.new) }
     {
         let active = word(number, SlotState::Active);
         let inactive = word(number, SlotState::Inactive);
         self.table
             .shared
-            .compare_exchange::<Age<N>>(&mut pass.seat, slot, active, inactive);
+            .compare_exchange::<Age<E, N>>(&mut pass.seat, slot, active, inactive);
     }
 
     /// One exchange from inactive to leaving. Where it finds the slot so, it takes the opening and frees the
     /// slot for its next use.
-    fn expire<N: Numbered>(&self, pass: &mut TimePass, slot: usize, number: u64) -> Option<Opening>
+    fn expire<E: Ending, N: Numbered>(
+        &self,
+        pass: &mut TimePass,
+        slot: usize,
+        number: u64,
+    ) -> Option<Opening>
         requires own { IsOf self.now pass.old }
         requires inside { slot < 4096 }
         requires number { (N.number ≡ number) × (number < 2 ^ 40) }
         ensures own { IsOf self.now pass.new }
-        ensures sweeps { SweepsAt slot (view_of pass.old) result (view_of pass.new) }
+        ensures sweeps { SweepsAt slot E.before (view_of pass.old) result (view_of pass.new) }
     {
         let inactive = word(number, SlotState::Inactive);
         let leaving = word(number, SlotState::Leaving);
@@ -211,7 +223,7 @@ impl Timeouts {
         let found = self
             .table
             .shared
-            .compare_exchange::<Expire<N>>(seat, slot, inactive, leaving);
+            .compare_exchange::<Expire<E, N>>(seat, slot, inactive, leaving);
         if found != inactive {
             return None;
         }

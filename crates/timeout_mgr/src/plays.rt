@@ -1,5 +1,6 @@
 //! The kinds of atomic step on the table, and what each tells the pass that makes it.
-ghost use Rattle.std.specs.Prelude.{ℕ, []};
+ghost use Rattle.std.specs.Prelude.{ℕ, List, [], Option, None};
+ghost use Rattle.reg_keys.specs.declared.Opening.{Opening};
 ghost use Rattle.timeout_mgr.specs.declared.view.TimeCall.{TimeCall};
 ghost use Rattle.timeout_mgr.specs.declared.view.TimeCall.TheVariants.{Sweep};
 ghost use Rattle.timeout_mgr.specs.Passes.{first_view};
@@ -28,6 +29,15 @@ pub trait Answering {
 
 impl Answering for Brand {
     ghost call = { Sweep [] };
+}
+
+/// Where a sweep ends: at the last slot, by the openings that it gave before. Each look of a sweep picks it.
+pub trait Ending {
+    ghost before: { Option (List Opening) };
+}
+
+impl Ending for Brand {
+    ghost before = { None };
 }
 
 // A load by an add.
@@ -88,28 +98,32 @@ impl<N: Numbered> Play<Option<Opening>, TimeView> for CancelTry<N> {
 }
 
 // A load by a sweep.
-pub(crate) struct SweepLook;
+pub(crate) struct SweepLook<E> {
+    marker: PhantomData<E>,
+}
 
-impl Play<Option<Opening>, TimeView> for SweepLook {
-    ghost then = { sweep_look };
+impl<E: Ending> Play<Option<Opening>, TimeView> for SweepLook<E> {
+    ghost then = { sweep_look E.before };
 }
 
 // An exchange by a sweep from active to inactive.
-pub(crate) struct Age<N> {
-    marker: PhantomData<N>,
+pub(crate) struct Age<E, N> {
+    ending: PhantomData<E>,
+    number: PhantomData<N>,
 }
 
-impl<N: Numbered> Play<Option<Opening>, TimeView> for Age<N> {
-    ghost then = { age_try N.number };
+impl<E: Ending, N: Numbered> Play<Option<Opening>, TimeView> for Age<E, N> {
+    ghost then = { age_try E.before N.number };
 }
 
 // An exchange by a sweep from inactive to leaving.
-pub(crate) struct Expire<N> {
-    marker: PhantomData<N>,
+pub(crate) struct Expire<E, N> {
+    ending: PhantomData<E>,
+    number: PhantomData<N>,
 }
 
-impl<N: Numbered> Play<Option<Opening>, TimeView> for Expire<N> {
-    ghost then = { expire_try N.number };
+impl<E: Ending, N: Numbered> Play<Option<Opening>, TimeView> for Expire<E, N> {
+    ghost then = { expire_try E.before N.number };
 }
 
 // A store: the slot is free for its next use.

@@ -121,10 +121,9 @@ impl Timeouts {
     {
         out.clear();
         for slot in 0..SLOTS {
-            if let Some(o) = self.sweep_at(pass, slot) {
+            if let Some(o) = self.sweep_at::<Brand>(pass, slot, out) {
                 out.push(o);
             }
         }
-        self.answer::<Brand, Expired>(pass, out);
     }
 }
