@@ -1,7 +1,7 @@
 // The field names and words that a head is read by, in small letters. They are compared without
 // regard to the case of ASCII letters (RFC 9110, sections 5.1 and 7.6.1).
-ghost use Rattle.std.specs.Prelude.{◌≡◌};
-ghost use Rattle.warp_request.specs.NamedLines.{IsKnown};
+ghost use Rattle.std.specs.Prelude.{◌≡◌, true};
+ghost use Rattle.warp_request.specs.NamedLines.{IsKnown, is_name as is_name_of};
 
 use crate::values::is_same_word;
 
@@ -38,21 +38,39 @@ pub(crate) enum KnownName {
     Other,
 }
 
-/// Which of them a name is. No two of those that decide are as long, so most names are told apart by their length alone.
+/// Which of them a name is. Most names are told apart from them by their length alone.
 pub(crate) fn known_name(name: &[u8]) -> KnownName
     ensures { IsKnown name.now result }
 {
-    if is_same_word(name, HOST) {
+    match name.len() {
+        4 | 6 | 10 | 14 | 17 => known_word(name),
+        _ => KnownName::Other,
+    }
+}
+
+/// Which of them a name is, by its letters.
+fn known_word(name: &[u8]) -> KnownName
+    ensures { IsKnown name.now result }
+{
+    if is_name(name, b"Host", HOST) {
         KnownName::Host
-    } else if is_same_word(name, CONNECTION) {
+    } else if is_name(name, b"Connection", CONNECTION) {
         KnownName::Connection
-    } else if is_same_word(name, TRANSFER_ENCODING) {
+    } else if is_name(name, b"Transfer-Encoding", TRANSFER_ENCODING) {
         KnownName::TransferEncoding
-    } else if is_same_word(name, CONTENT_LENGTH) {
+    } else if is_name(name, b"Content-Length", CONTENT_LENGTH) {
         KnownName::ContentLength
-    } else if is_same_word(name, EXPECT) {
+    } else if is_name(name, b"Expect", EXPECT) {
         KnownName::Expect
     } else {
         KnownName::Other
     }
+}
+
+/// Whether a name is this word, which most clients write in the usual way.
+fn is_name(name: &[u8], usual: &[u8], word: &[u8]) -> bool
+    requires { is_name_of usual.now word.now ≡ true }
+    ensures { result ≡ is_name_of name.now word.now }
+{
+    name == usual || is_same_word(name, word)
 }
