@@ -38,32 +38,17 @@ pub(crate) enum KnownName {
     Other,
 }
 
-/// Which of them a name is. Most names are told apart from them by their length alone.
+/// Which of them a name is. No two of those that decide are as long, so most names are told apart by their length alone.
 pub(crate) fn known_name(name: &[u8]) -> KnownName
     ensures { IsKnown name.now result }
 {
     match name.len() {
-        4 | 6 | 10 | 14 | 17 => known_word(name),
+        4 if is_name(name, b"Host", HOST) => KnownName::Host,
+        6 if is_name(name, b"Expect", EXPECT) => KnownName::Expect,
+        10 if is_name(name, b"Connection", CONNECTION) => KnownName::Connection,
+        14 if is_name(name, b"Content-Length", CONTENT_LENGTH) => KnownName::ContentLength,
+        17 if is_name(name, b"Transfer-Encoding", TRANSFER_ENCODING) => KnownName::TransferEncoding,
         _ => KnownName::Other,
-    }
-}
-
-/// Which of them a name is, by its letters.
-fn known_word(name: &[u8]) -> KnownName
-    ensures { IsKnown name.now result }
-{
-    if is_name(name, b"Host", HOST) {
-        KnownName::Host
-    } else if is_name(name, b"Connection", CONNECTION) {
-        KnownName::Connection
-    } else if is_name(name, b"Transfer-Encoding", TRANSFER_ENCODING) {
-        KnownName::TransferEncoding
-    } else if is_name(name, b"Content-Length", CONTENT_LENGTH) {
-        KnownName::ContentLength
-    } else if is_name(name, b"Expect", EXPECT) {
-        KnownName::Expect
-    } else {
-        KnownName::Other
     }
 }
 
