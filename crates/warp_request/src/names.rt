@@ -1,7 +1,7 @@
 // The field names and words that a head is read by, in small letters. They are compared without
 // regard to the case of ASCII letters (RFC 9110, sections 5.1 and 7.6.1).
-ghost use Rattle.std.specs.Prelude.{◌≡◌, true};
-ghost use Rattle.warp_request.specs.NamedLines.{IsKnown, is_name as is_name_of};
+ghost use Rattle.std.specs.Prelude.{◌≡◌};
+ghost use Rattle.warp_request.specs.NamedLines.{IsKnown};
 
 use crate::values::is_same_word;
 
@@ -42,20 +42,17 @@ pub(crate) enum KnownName {
 pub(crate) fn known_name(name: &[u8]) -> KnownName
     ensures { IsKnown name.now result }
 {
-    match name.len() {
-        4 if is_name(name, b"Host", HOST) => KnownName::Host,
-        6 if is_name(name, b"Expect", EXPECT) => KnownName::Expect,
-        10 if is_name(name, b"Connection", CONNECTION) => KnownName::Connection,
-        14 if is_name(name, b"Content-Length", CONTENT_LENGTH) => KnownName::ContentLength,
-        17 if is_name(name, b"Transfer-Encoding", TRANSFER_ENCODING) => KnownName::TransferEncoding,
-        _ => KnownName::Other,
+    if is_same_word(name, HOST) {
+        KnownName::Host
+    } else if is_same_word(name, CONNECTION) {
+        KnownName::Connection
+    } else if is_same_word(name, TRANSFER_ENCODING) {
+        KnownName::TransferEncoding
+    } else if is_same_word(name, CONTENT_LENGTH) {
+        KnownName::ContentLength
+    } else if is_same_word(name, EXPECT) {
+        KnownName::Expect
+    } else {
+        KnownName::Other
     }
-}
-
-/// Whether a name is this word, which most clients write in the usual way.
-fn is_name(name: &[u8], usual: &[u8], word: &[u8]) -> bool
-    requires { is_name_of usual.now word.now ≡ true }
-    ensures { result ≡ is_name_of name.now word.now }
-{
-    name == usual || is_same_word(name, word)
 }
