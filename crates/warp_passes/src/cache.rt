@@ -1,6 +1,5 @@
-//! Calls on the cache of open files, which lies in a turn cell. Each makes one entry of the cache's history
-//! or two,
-//! and waits for the turn. Files are looked at and closed outside of it.
+//! Calls on the cache of open files, which lies in a turn cell. Each makes one entry of the cache's history or
+//! two, and waits for the turn. Files are looked at and closed outside of it.
 ghost use Rattle.std.specs.Prelude.{◌≡◌, []};
 ghost use Rattle.turn_cell.specs.Calls.{view_of};
 ghost use Rattle.fd_cache.specs.Acquired.{Gives};
@@ -58,8 +57,7 @@ pub fn release<R: Wait, F: Files>(
 }
 
 /// Closes what nobody asked for since the last reap. The files are closed once the turn is given back. The
-/// basket
-/// is empty, and comes back so for the next reap.
+/// basket is empty, and comes back so for the next reap.
 pub fn reap_once<R: Wait, F: Files>(
     rt: &R,
     cell: &TurnCell<Cache<F>>,

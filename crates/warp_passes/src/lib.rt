@@ -1,12 +1,9 @@
 //! What all dispatchers of a server share, and the passes that each of them calls it with: the events, the
-//! ready
-//! queue, the timeouts, the cache of open files and the tally. A dispatcher owns one pass of each.
+//! ready queue, the timeouts, the cache of open files and the tally. A dispatcher owns one pass of each.
 //!
 //! The promise: a call adds its own entries to what its pass did, and nothing else, or nothing where the cell
-//! takes
-//! no more calls; and passes that were brought level did together exactly what stands in the histories that
-//! each of
-//! them has seen, whatever an entry weighs.
+//! takes no more calls; and passes that were brought level did together exactly what stands in the histories
+//! that each of them has seen, whatever an entry weighs.
 #![tactic(auto)]
 
 // The calls that a run makes on the tally and on the cache.

@@ -10,8 +10,7 @@ use std::alloc::{AllocError, Global};
 use stripe_table::Load;
 
 /// All things new, and so many passes of them. None has seen anything or did anything, and on each cell each
-/// seat is
-/// one pass's.
+/// seat is one pass's.
 pub fn shared_among<J: Load, F: Files>(
     alloc: Global,
     dispatchers: usize,

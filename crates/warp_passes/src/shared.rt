@@ -49,8 +49,7 @@ impl<J: Load, F: Files> Shared<J, F> {
     ghost use Rattle.warp_passes.specs.Cells.{ArePassesShared};
 
     /// All things new, and their first pass: it has all seats, has seen nothing and did nothing. All memory
-    /// that
-    /// calls on them ever need is taken here, but that of the cache's paths and of the tally's openings.
+    /// that calls on them ever need is taken here, but that of the cache's paths and of the tally's openings.
     pub fn new(alloc: Global) -> Result<(Shared<J, F>, ServePass<J, F>), AllocError>
         ensures own { IfOk result (λ s. AreOf s.0 s.1) }
         ensures first { IfOk result (λ s. IsFirst (pass_view s.1)) }
@@ -78,8 +77,7 @@ impl<J: Load, F: Files> Shared<J, F> {
         Ok((shared, pass))
     }
 
-    /// A pass that has seen what this one has, did nothing, and has an empty hand. It takes half of this
-    /// one's
+    /// A pass that has seen what this one has, did nothing, and has an empty hand. It takes half of this one's
     /// first class of seats on each cell.
     ///
     /// Its memory is taken before any pass is split, so where there is none this pass is as it was.
@@ -118,8 +116,7 @@ impl<J: Load, F: Files> Shared<J, F> {
     }
 
     /// Tells `to` what `from` has seen of each cell. It takes no memory, waits for no turn and makes no call.
-    /// The
-    /// passes of the queue and of the timeouts are no cells' and are left alone, and so are the hands.
+    /// The passes of the queue and of the timeouts are no cells' and are left alone, and so are the hands.
     pub(crate) fn tell(&self, from: &mut ServePass<J, F>, to: &mut ServePass<J, F>)
         requires from { AreOf self.now from.old }
         requires to { AreOf self.now to.old }

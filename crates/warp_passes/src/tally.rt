@@ -1,5 +1,4 @@
-//! Calls on the tally, which lies in a turn cell. Each call is one entry of the tally's history, and waits
-//! for
+//! Calls on the tally, which lies in a turn cell. Each call is one entry of the tally's history, and waits for
 //! the turn.
 ghost use Rattle.turn_cell.specs.Calls.{view_of};
 ghost use Rattle.warp_tally.specs.declared.calls.TallyCall.TheVariants.{Accept, TurnAway, Finish, Stop, Look};

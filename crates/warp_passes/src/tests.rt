@@ -51,8 +51,7 @@ fn call_with<R: Wait, F: Files>(
 }
 
 /// One call on the tally: whose pass makes it, and whether it counts, what is then accepted and finished, and
-/// the
-/// first stop.
+/// the first stop.
 #[derive(Clone, Copy)]
 struct Step {
     place: usize,

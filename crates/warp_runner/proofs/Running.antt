@@ -1,0 +1,45 @@
+-- A run of a job, and a job that is dropped, in the journal.
+use Rattle.std.proofs.Common.{◌≡◌, ℕ, List, [], ◌∷◌, ◌++◌, sym, refl, subst, inl, inr}
+use Rattle.std.specs.Prelude.{Option, None}
+use Rattle.reg_keys.specs.declared.event.EventName.{EventName}
+use Rattle.reg_keys.specs.declared.registration.Marks.{Marks}
+use Rattle.reg_keys.specs.declared.entry.LoadKind.TheVariants as Kinds
+use Rattle.dispatcher.specs.Entries.{Firing}
+use Rattle.dispatcher.specs.Firings.{Jobs}
+use Rattle.warp_runner.specs.declared.serving.Ran.{Ran}
+use Rattle.warp_runner.specs.Acts.{Acts, Did, ServeTold, nothing}
+use Rattle.warp_jobs.specs.Held.{Held}
+use Rattle.warp_jobs.specs.HeldListener.{HeldListener}
+use Rattle.warp_jobs.specs.Tags.{serve_tag, listen_tag}
+use Rattle.warp_runner.specs.Deeds.{IsConnectionRun, IsListenerRun, IsNote, IsStarting, IsSweeping}
+use Rattle.warp_runner.proofs.Registering.{RanSo}
+use Rattle.warp_runner.specs.Journal.{Fits}
+use Rattle.warp_runner.specs.JournalLaws.{fits_then}
+use Rattle.warp_runner.specs.Runs.{HasRun, named}
+use Rattle.outside.specs.ListenCauses.{ListenerTold}
+
+module _ (limit : ℕ) (u w : ServeTold) (rest : Jobs) where
+  pub run_fits : (f : Firing) (jobs : Jobs) (events : List EventName) (stopped : Option ℕ) → jobs ≡ f ∷ [] → HasRun limit f u events stopped w → Fits limit u (jobs ++ rest) → Fits limit w rest
+  run_fits f jobs events stopped is ran fits = fits_then limit u w (record { job = f ∷ []; acts = ran.0; stopped = stopped }) events rest ran.1 (inl (f, refl, ran.2))
+      (subst (λ (l : Jobs). Fits limit u (l ++ rest)) is fits)
+
+  pub dropped_fits : (f : Firing) → Did u nothing [] w → Fits limit u (f ∷ rest) → Fits limit w rest
+  dropped_fits f did fits = fits_then limit u w (record { job = f ∷ []; acts = nothing; stopped = None }) [] rest did (inr (inl (f, refl, refl))) fits
+
+  pub sweep_fits : (stopped : Option ℕ) (acts : Acts) (events : List EventName) → Did u acts events w → IsSweeping acts stopped → Fits limit u rest → Fits limit w rest
+  sweep_fits stopped acts events did is fits = fits_then limit u w (record { job = []; acts = acts; stopped = stopped }) events rest did (inr (inr (inl (refl, is)))) fits
+
+  pub note_fits : (acts : Acts) → Did u acts [] w → IsNote acts → Fits limit u rest → Fits limit w rest
+  note_fits acts did is fits = fits_then limit u w (record { job = []; acts = acts; stopped = None }) [] rest did (inr (inr (inr (inl (refl, is))))) fits
+
+  pub start_fits : (listener : ListenerTold) (stopped : Option ℕ) (acts : Acts) (events : List EventName) → Did u acts events w → IsStarting listener acts stopped → Fits limit u rest → Fits limit w rest
+  start_fits listener stopped acts events did is fits = fits_then limit u w (record { job = []; acts = acts; stopped = stopped }) events rest did (inr (inr (inr (inr (listener, refl, is))))) fits
+
+-- ---- a run of a job
+
+module _ (limit : ℕ) (f : Firing) (marks : Marks) (u w : ServeTold) (ran : Ran) (same : f.1.marks ≡ marks) where
+  pub runs_connection : (h : Held) → f.1.kind ≡ Kinds.Job (serve_tag h) → RanSo u ran w (IsConnectionRun h marks) → HasRun limit f u (named ran) ran.stopped w
+  runs_connection h kind r = (r.0, r.1, inl (h, kind, subst (λ (m : Marks). IsConnectionRun h m r.0 ran.stopped) (sym same) r.2))
+
+  pub runs_listener : (l : HeldListener) → f.1.kind ≡ Kinds.Job (listen_tag l) → RanSo u ran w (IsListenerRun limit l marks) → HasRun limit f u (named ran) ran.stopped w
+  runs_listener l kind r = (r.0, r.1, inr (l, kind, subst (λ (m : Marks). IsListenerRun limit l m r.0 ran.stopped) (sym same) r.2))

@@ -1,0 +1,18 @@
+use Rattle.std.proofs.Common.{refl, inl}
+use Rattle.turn_cell.specs.Calls.{view_of}
+use Rattle.timeout_mgr.specs.Calls.{view_of as seen_of}
+use Rattle.warp_runner.specs.Acts.{told_of}
+use Rattle.warp_runner.proofs.AcceptLemmas.{notes}
+use Rattle.warp_runner.proofs.Running.{note_fits}
+use Rattle.warp_tally.specs.declared.calls.TallyCall.TheVariants.{Look}
+use Rattle.warp_runner.proofs.runner.ServerRunner.look.Goals as goal
+
+pub returns-clause-fits : goal.returns-clause-fits
+returns-clause-fits g c =
+    let was = c.args.self.now in
+    let t = view_of was.tallied in
+    let s = seen_of was.timed in
+    let b = g.B.Book.told was.book in
+    let q = view_of c.look.new.pass in
+    let n = notes c.calls_of_runs.ensures t q s b Look (inl refl) c.look.result c.look.ensures.called in
+    λ v jobs fits. note_fits was.limit (told_of v t s b) (told_of v q s b) jobs n.0 (n.1 v) n.2 fits

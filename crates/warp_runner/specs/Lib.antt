@@ -1,0 +1,6 @@
+pub mod Acts
+pub mod Calls
+pub mod Deeds
+pub mod Journal
+pub mod JournalLaws
+pub mod Runs
