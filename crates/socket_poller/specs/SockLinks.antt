@@ -1,0 +1,15 @@
+-- To be believed: what a link over a socket tells: its counts of faults and of waits.
+use Rattle.std.specs.Prelude.{None}
+use Rattle.outside.specs.Causes.{LinkTold}
+use Rattle.socket_poller.specs.declared.sock_link.SockLink.{SockLink}
+
+-- it tells no bytes
+abbrev pub told_of : SockLink → LinkTold
+told_of link = record {
+  taken = None;
+  sent = None;
+  ended = None;
+  plan = None;
+  faults = record { reads = link.read_faults.n; writes = link.write_faults.n };
+  waits = record { reads = link.read_waits.n; writes = link.write_waits.n };
+}

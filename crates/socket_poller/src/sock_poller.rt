@@ -1,0 +1,189 @@
+//! A poller of sockets.
+ghost use Rattle.std.specs.Prelude.{◌≡◌, ◌<◌, ◌≤◌, [], IfOk, length, vec_len};
+ghost use Rattle.mio.specs.Events.{capacity as events_capacity, items};
+ghost use Rattle.socket_poller.specs.Reports.{reports_of};
+
+use crate::fault::SockFault;
+use crate::group::Group;
+use crate::home::Home;
+use crate::limits::{IDLE_MILLIS, POLLERS, TAKEN_IN};
+use crate::lingering::Lingerers;
+use crate::sock_link::SockLink;
+use crate::sock_listener::SockListener;
+use crate::report::{ends_reading, place_of, report_of};
+use mio::{Events, Poll};
+use outside::Count;
+use poller::{AddOut, PollOut, Poller, REPORTS, Reports};
+use reg_keys::Opening;
+use std::alloc::Global;
+use std::net::Net;
+use std::rt::Clock;
+use std::sync::{Arc, Wait};
+use std::time::{Duration, Instant};
+
+/// A poller of sockets. Those of one server are made together and share its links.
+#[derive(Drop)]
+pub struct SockPoller<'a, R> {
+    clock: &'a R,
+    poll: Poll,
+    events: Events,
+    /// Whether the last poll asked the system.
+    asked: bool,
+    group: Arc<Group, Global>,
+    place: usize,
+    /// Whether it has polled.
+    joined: bool,
+    lingerers: Lingerers,
+    add_faults: Count,
+    poll_faults: Count,
+    ghost room: { events_capacity events ≡ 1024 },
+    ghost within: { place < 64 },
+}
+
+impl<'a, R> SockPoller<'a, R> {
+    /// So many pollers, one for each dispatcher. The clock is asked while links linger.
+    pub fn group<N: Net>(
+        net: &N,
+        clock: &'a R,
+        alloc: Global,
+        count: usize,
+    ) -> Result<Vec<SockPoller<'a, R>>, SockFault>
+        requires { (1 ≤ count) × (count ≤ POLLERS) }
+        ensures { IfOk result (λ pollers. vec_len pollers ≡ count) }
+    {
+        let mut polls = Vec::with_capacity(alloc, count)?;
+        for _made in 0..count {
+            polls.push(Poll::new(net)?)?;
+        }
+        let group = Arc::new(alloc, Group::new(alloc, &polls)?)?;
+        let mut pollers = Vec::with_capacity(alloc, count)?;
+        for poll in polls {
+            let place = pollers.len();
+            let group = Arc::try_clone(&group)?;
+            pollers.push(SockPoller::new(alloc, clock, poll, group, place)?)?;
+        }
+        Ok(pollers)
+    }
+
+    /// The poller of one set of a group.
+    fn new(
+        alloc: Global,
+        clock: &'a R,
+        poll: Poll,
+        group: Arc<Group, Global>,
+        place: usize,
+    ) -> Result<SockPoller<'a, R>, SockFault>
+        requires { place < POLLERS }
+    {
+        Ok(SockPoller {
+            clock,
+            poll,
+            events: Events::with_capacity(alloc, REPORTS)?,
+            asked: false,
+            group,
+            place,
+            joined: false,
+            lingerers: Lingerers::new(alloc)?,
+            add_faults: Count::new(),
+            poll_faults: Count::new(),
+        })
+    }
+
+    /// Puts the reports of the events into `out`. What came for links that linger is taken.
+    fn hear(&mut self, out: &mut Reports)
+        requires { out.old ≡ [] }
+        ensures { out.new ≡ reports_of (items self.old.events) }
+    {
+        for event in self.events.iter() {
+            match report_of(event) {
+                Some((opening, dirs)) => {
+                    if ends_reading(event) {
+                        self.group.ends.note(opening);
+                    }
+                    out.push(opening, dirs);
+                }
+                None => {
+                    self.lingerers
+                        .hear(self.poll.registry(), place_of(event.token()));
+                }
+            }
+        }
+    }
+}
+
+impl<'a, R: Clock> SockPoller<'a, R> {
+    /// Takes in the links that were let go, and closes those that lingered long enough.
+    fn tend(&mut self) {
+        let Ok(now) = Instant::now(self.clock) else {
+            return;
+        };
+        if let Some(set) = self.group.sets.get(self.place) {
+            for _ in 0..TAKEN_IN {
+                let Some(stream) = set.departed.take() else {
+                    break;
+                };
+                self.lingerers.take_in(self.poll.registry(), stream, now);
+            }
+        }
+        if !self.lingerers.is_empty() {
+            self.lingerers.look(now);
+        }
+    }
+}
+
+impl<'a, R: Clock> Poller for SockPoller<'a, R> {
+    type Link = SockLink;
+
+    type Listener = SockListener;
+
+    ghost use Rattle.std.specs.Prelude.{None};
+    ghost use Rattle.socket_poller.specs.SockPolls.{faults_of, IsPoll};
+
+    ghost meaning = { record { faults = faults_of; polled = λ _. None; polls = IsPoll } };
+
+    fn add(&mut self, opening: Opening, link: &mut SockLink) -> AddOut {
+        let place = self.group.next_place(self.place);
+        let Ok(home) = Home::new(&self.group, place, opening) else {
+            return AddOut::NoMemory;
+        };
+        if link.join(home).is_err() {
+            self.add_faults.rise();
+            return AddOut::Failed;
+        }
+        AddOut::Added
+    }
+
+    fn add_listener(&mut self, opening: Opening, listener: &mut SockListener) -> AddOut {
+        let Ok(home) = Home::new(&self.group, self.place, opening) else {
+            return AddOut::NoMemory;
+        };
+        if listener.join(home).is_err() {
+            self.poll_faults.rise();
+            return AddOut::Failed;
+        }
+        AddOut::Added
+    }
+
+    fn poll<W: Wait>(&mut self, _rt: &W, idle: bool, out: &mut Reports) -> PollOut {
+        if !idle && self.asked {
+            self.asked = false;
+            return PollOut::Polled;
+        }
+        self.asked = true;
+        if !self.joined {
+            self.joined = true;
+            self.group.join(self.place);
+        }
+        self.tend();
+        let millis = if idle { IDLE_MILLIS } else { 0 };
+        let wait = Duration::from_millis(millis);
+        if self.poll.poll(&mut self.events, Some(wait)).is_err() {
+            self.poll_faults.rise();
+            return PollOut::Failed;
+        }
+        self.hear(out);
+        PollOut::Polled
+    }
+
+    ghost polls_alone = { λ old idle result out new polls. polls.leaves };
+}
