@@ -25,12 +25,14 @@ pub(crate) struct Group {
     added: AtomicU64,
     pub ends: PeerEnds,
     ghost some: { 1 ≤ vec_len sets },
+    ghost few: { vec_len sets ≤ 64 },
 }
 
 impl Group {
     /// The group of these sets, of which nobody polls yet.
     pub fn new(alloc: Global, polls: &[Poll]) -> Result<Group, SockFault>
-        requires { 1 ≤ length polls.now }
+        requires some { 1 ≤ length polls.now }
+        requires few { length polls.now ≤ 64 }
         ensures { IfOk result (λ group. vec_len group.sets ≡ length polls.now) }
     {
         let mut sets = Vec::with_capacity(alloc, polls.len())?;
@@ -49,9 +51,12 @@ impl Group {
 
     /// Notes that a poller polls.
     pub fn join(&self, place: usize)
-        requires { place < 64 }
+        requires { place < vec_len self.now.sets }
     {
-        self.polling.fetch_or(1 << place, Ordering::SeqCst);
+        let bit = 1 << place;
+        if self.polling.load(Ordering::SeqCst) & bit == 0 {
+            self.polling.fetch_or(bit, Ordering::SeqCst);
+        }
     }
 
     /// The place of the set that the next link is added to. The pollers that have polled take turns: so a

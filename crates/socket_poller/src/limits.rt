@@ -1,5 +1,4 @@
-//! How much there is of each thing, each named once. The sizes are this project's own; the numbers of errors
-//! are those of Linux.
+//! How much there is of each thing, each named once. The sizes are this project's own.
 
 /// How many pollers share the links of one server at most.
 pub const POLLERS: usize = 64;
@@ -36,36 +35,3 @@ pub(crate) const HAND_OVERS: u32 = 1_000;
 
 /// How many connections in a row that can't be had one accept passes over.
 pub(crate) const PASSED_OVER: u32 = 256;
-
-/// The system has no descriptor left.
-pub(crate) const ENFILE: i32 = 23;
-
-/// The system has no room for the connection.
-pub(crate) const ENOBUFS: i32 = 105;
-
-/// A fault of the network, which an accept hands on: of the protocol.
-pub(crate) const EPROTO: i32 = 71;
-
-/// The same: no such option.
-pub(crate) const ENOPROTOOPT: i32 = 92;
-
-/// The same: not supported.
-pub(crate) const EOPNOTSUPP: i32 = 95;
-
-/// The same: the network is down.
-pub(crate) const ENETDOWN: i32 = 100;
-
-/// The same: the network can't be reached.
-pub(crate) const ENETUNREACH: i32 = 101;
-
-/// The same: the connection timed out.
-pub(crate) const ETIMEDOUT: i32 = 110;
-
-/// The same: the host is down.
-pub(crate) const EHOSTDOWN: i32 = 112;
-
-/// The same: the host can't be reached.
-pub(crate) const EHOSTUNREACH: i32 = 113;
-
-/// The same: the machine isn't on the network.
-pub(crate) const ENONET: i32 = 64;

@@ -1,9 +1,11 @@
 //! Links that were let go and linger: their writing side is shut, what comes is taken and thrown away, and
 //! they are closed once the peer ends, or after a while, or after so many bytes.
-ghost use Rattle.std.specs.Prelude.{◌<◌, ◌≤◌, ◌%◌};
+ghost use Rattle.std.specs.Prelude.{◌≡◌, ◌<◌, ◌≤◌};
+ghost use Rattle.slab.specs.Slab.{slab_len};
 
+use crate::group::Set;
 use crate::limits::{
-    DRAIN_ROOM, DRAINS, LINGER_BYTES, LINGER_SECONDS, LINGERING, LOOKED_AT,
+    DRAIN_ROOM, DRAINS, LINGER_BYTES, LINGER_SECONDS, LINGERING, LOOKED_AT, TAKEN_IN,
 };
 use crate::report::token_at;
 use crate::retry::read_once;
@@ -12,6 +14,7 @@ use mio::{Interest, Registry};
 use slab::Slab;
 use std::alloc::{AllocError, Global};
 use std::io::ErrorKind;
+use std::rt::Clock;
 use std::time::{Duration, Instant};
 
 /// A link that lingers.
@@ -58,6 +61,7 @@ pub(crate) struct Lingerers {
     /// Where the peers' bytes are put. Nobody looks at them.
     room: Vec<u8>,
     ghost hand_within: { hand < 1024 },
+    ghost few: { slab_len places ≤ 1024 },
 }
 
 impl Lingerers {
@@ -70,15 +74,18 @@ impl Lingerers {
         })
     }
 
-    /// Whether no link lingers.
-    pub fn is_empty(&self) -> bool {
-        self.places.is_empty()
+    /// How many links linger.
+    pub fn count(&self) -> usize
+        ensures few { result ≤ LINGERING }
+        ensures count { result ≡ slab_len self.now.places }
+    {
+        self.places.len()
     }
 
     /// Lets a socket of the set linger from now on. Where all places are taken it is closed.
-    pub fn take_in(&mut self, registry: &Registry, stream: TcpStream, now: Instant) {
+    fn take_in(&mut self, registry: &Registry, stream: TcpStream, now: Instant) {
         let place = self.places.vacant_key();
-        if place >= LINGERING {
+        if self.places.len() >= LINGERING || place >= LINGERING {
             return;
         }
         let mut stream = stream;
@@ -114,8 +121,24 @@ impl Lingerers {
         }
     }
 
+    /// Takes in the links of the set that were let go, and closes those that lingered long enough.
+    pub fn tend<R: Clock>(&mut self, set: &Set, clock: &R) {
+        let Ok(now) = Instant::now(clock) else {
+            return;
+        };
+        for _ in 0..TAKEN_IN {
+            let Some(stream) = set.departed.take() else {
+                break;
+            };
+            self.take_in(&set.registry, stream, now);
+        }
+        if !self.places.is_empty() {
+            self.look(now);
+        }
+    }
+
     /// Closes links whose time is over, of the next places.
-    pub fn look(&mut self, now: Instant) {
+    fn look(&mut self, now: Instant) {
         for _ in 0..LOOKED_AT {
             let place = self.hand;
             self.hand = (place + 1) % LINGERING;

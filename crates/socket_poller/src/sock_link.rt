@@ -27,7 +27,7 @@ enum Talk {
 /// shuts its writing side and lingers: what comes is taken for a while and thrown away, and then it is closed.
 /// Closed at once, with bytes unread, it would be reset, and the peer might lose what was written.
 pub struct SockLink {
-    stream: TcpStream,
+    pub(crate) stream: TcpStream,
     /// Where it was added.
     home: Option<Home>,
     /// Whether the last read took all that was there.

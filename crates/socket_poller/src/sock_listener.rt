@@ -1,5 +1,5 @@
 //! A listener over a socket. It tells no plans.
-ghost use Rattle.std.specs.Prelude.{◌≡◌, ◌≤◌, None, IfOk, OnErr, tt};
+ghost use Rattle.std.specs.Prelude.{◌≡◌, ◌≤◌, None, IfOk, OnErr};
 ghost use Rattle.outside.specs.Counts.{full};
 ghost use Rattle.outside.specs.ListenCauses.{IfAccepted, IsUntouched};
 

@@ -1,12 +1,14 @@
 //! A poller of sockets.
 ghost use Rattle.std.specs.Prelude.{◌≡◌, ◌<◌, ◌≤◌, [], IfOk, length, vec_len};
+ghost use Rattle.std.specs.Arc.{arc_value};
 ghost use Rattle.mio.specs.Events.{capacity as events_capacity, items};
 ghost use Rattle.socket_poller.specs.Reports.{reports_of};
 
 use crate::fault::SockFault;
-use crate::group::Group;
+use crate::group::{Group, Set};
 use crate::home::Home;
-use crate::limits::{IDLE_MILLIS, POLLERS, TAKEN_IN};
+use crate::limits::{IDLE_MILLIS, LINGERING, POLLERS};
+use crate::peer_ends::PeerEnds;
 use crate::lingering::Lingerers;
 use crate::sock_link::SockLink;
 use crate::sock_listener::SockListener;
@@ -19,7 +21,7 @@ use std::alloc::Global;
 use std::net::Net;
 use std::rt::Clock;
 use std::sync::{Arc, Wait};
-use std::time::{Duration, Instant};
+use std::time::Duration;
 
 /// A poller of sockets. Those of one server are made together and share its links.
 #[derive(Drop)]
@@ -31,13 +33,11 @@ pub struct SockPoller<'a, R> {
     asked: bool,
     group: Arc<Group, Global>,
     place: usize,
-    /// Whether it has polled.
-    joined: bool,
     lingerers: Lingerers,
     add_faults: Count,
     poll_faults: Count,
     ghost room: { events_capacity events ≡ 1024 },
-    ghost within: { place < 64 },
+    ghost within: { place < vec_len (arc_value group).sets },
 }
 
 impl<'a, R> SockPoller<'a, R> {
@@ -65,6 +65,13 @@ impl<'a, R> SockPoller<'a, R> {
         Ok(pollers)
     }
 
+    /// How many links linger with it.
+    pub fn lingering(&self) -> usize
+        ensures { result ≤ LINGERING }
+    {
+        self.lingerers.count()
+    }
+
     /// The poller of one set of a group.
     fn new(
         alloc: Global,
@@ -73,7 +80,7 @@ impl<'a, R> SockPoller<'a, R> {
         group: Arc<Group, Global>,
         place: usize,
     ) -> Result<SockPoller<'a, R>, SockFault>
-        requires { place < POLLERS }
+        requires { place < vec_len (arc_value group).sets }
     {
         Ok(SockPoller {
             clock,
@@ -82,51 +89,29 @@ impl<'a, R> SockPoller<'a, R> {
             asked: false,
             group,
             place,
-            joined: false,
             lingerers: Lingerers::new(alloc)?,
             add_faults: Count::new(),
             poll_faults: Count::new(),
         })
     }
-
-    /// Puts the reports of the events into `out`. What came for links that linger is taken.
-    fn hear(&mut self, out: &mut Reports)
-        requires { out.old ≡ [] }
-        ensures { out.new ≡ reports_of (items self.old.events) }
-    {
-        for event in self.events.iter() {
-            match report_of(event) {
-                Some((opening, dirs)) => {
-                    if ends_reading(event) {
-                        self.group.ends.note(opening);
-                    }
-                    out.push(opening, dirs);
-                }
-                None => {
-                    self.lingerers
-                        .hear(self.poll.registry(), place_of(event.token()));
-                }
-            }
-        }
-    }
 }
 
-impl<'a, R: Clock> SockPoller<'a, R> {
-    /// Takes in the links that were let go, and closes those that lingered long enough.
-    fn tend(&mut self) {
-        let Ok(now) = Instant::now(self.clock) else {
-            return;
-        };
-        if let Some(set) = self.group.sets.get(self.place) {
-            for _ in 0..TAKEN_IN {
-                let Some(stream) = set.departed.take() else {
-                    break;
-                };
-                self.lingerers.take_in(self.poll.registry(), stream, now);
+/// Puts the reports of the events into `out`. The ends of peers are noted before, and what came for links that
+/// linger is taken.
+fn hear(events: &Events, set: &Set, ends: &PeerEnds, lingerers: &mut Lingerers, out: &mut Reports)
+    requires empty { out.old ≡ [] }
+    requires few { length (items events.now) ≤ REPORTS }
+    ensures { out.new ≡ reports_of (items events.now) }
+{
+    for event in events.iter() {
+        match report_of(event) {
+            Some((opening, dirs)) => {
+                if ends_reading(event) {
+                    ends.note(opening);
+                }
+                out.push(opening, dirs);
             }
-        }
-        if !self.lingerers.is_empty() {
-            self.lingerers.look(now);
+            None => lingerers.hear(&set.registry, place_of(event.token())),
         }
     }
 }
@@ -170,18 +155,16 @@ impl<'a, R: Clock> Poller for SockPoller<'a, R> {
             return PollOut::Polled;
         }
         self.asked = true;
-        if !self.joined {
-            self.joined = true;
-            self.group.join(self.place);
-        }
-        self.tend();
+        self.group.join(self.place);
+        let set = &self.group.sets[self.place];
+        self.lingerers.tend(set, self.clock);
         let millis = if idle { IDLE_MILLIS } else { 0 };
         let wait = Duration::from_millis(millis);
         if self.poll.poll(&mut self.events, Some(wait)).is_err() {
             self.poll_faults.rise();
             return PollOut::Failed;
         }
-        self.hear(out);
+        hear(&self.events, set, &self.group.ends, &mut self.lingerers, out);
         PollOut::Polled
     }
 

@@ -1,13 +1,7 @@
 //! Why there is no connection where the system was asked for one.
 ghost use Rattle.std.specs.Prelude.{◌≡◌};
-ghost use Rattle.std.specs.IoError.{raw_os_error};
-ghost use Rattle.socket_poller.specs.Troubles.{trouble_of};
+ghost use Rattle.socket_poller.specs.Troubles as spec;
 
-use crate::limits::{
-    EHOSTDOWN, EHOSTUNREACH, ENETDOWN, ENETUNREACH, ENFILE, ENOBUFS, ENONET, ENOPROTOOPT,
-    EOPNOTSUPP, EPROTO, ETIMEDOUT,
-};
-use libc::{EAGAIN, ECONNABORTED, EMFILE, ENOMEM, EPERM};
 use std::io;
 
 /// Why there is no connection.
@@ -23,16 +17,35 @@ pub(crate) enum Trouble {
     Broken,
 }
 
-/// What the number of an error of `accept` says (accept(2)).
-pub(crate) fn trouble_of(error: &io::Error) -> Trouble
-    ensures { result ≡ trouble_of (raw_os_error error.now) }
+/// None waits: `EAGAIN`. These are numbers of Linux, and what they say stands in accept(2).
+const EMPTY: u32 = 11;
+
+/// No memory, or no descriptor: `ENOMEM`, `ENFILE`, `EMFILE`, `ENOBUFS`.
+const FULL: [u32; 4] = [12, 23, 24, 105];
+
+/// What befell one connection: `EPERM`, `ENONET`, `EPROTO`, `ENOPROTOOPT`, `EOPNOTSUPP`, `ENETDOWN`,
+/// `ENETUNREACH`, `ECONNABORTED`, `ECONNRESET`, `ETIMEDOUT`, `EHOSTDOWN`, `EHOSTUNREACH`.
+const GONE: [u32; 12] = [1, 64, 71, 92, 95, 100, 101, 103, 104, 110, 112, 113];
+
+/// What the number of an error of an accept says.
+fn trouble_of_number(number: u32) -> Trouble
+    ensures { result ≡ spec.trouble_of_number number }
 {
+    if number == EMPTY {
+        Trouble::Empty
+    } else if FULL.contains(&number) {
+        Trouble::Full
+    } else if GONE.contains(&number) {
+        Trouble::Gone
+    } else {
+        Trouble::Broken
+    }
+}
+
+/// What an error of an accept says.
+pub(crate) fn trouble_of(error: &io::Error) -> Trouble {
     match error.raw_os_error() {
-        Some(EAGAIN) => Trouble::Empty,
-        Some(EMFILE) | Some(ENFILE) | Some(ENOBUFS) | Some(ENOMEM) => Trouble::Full,
-        Some(ECONNABORTED) | Some(EPERM) | Some(EPROTO) | Some(ETIMEDOUT) => Trouble::Gone,
-        Some(ENETDOWN) | Some(ENETUNREACH) | Some(EHOSTDOWN) | Some(EHOSTUNREACH) => Trouble::Gone,
-        Some(ENONET) | Some(ENOPROTOOPT) | Some(EOPNOTSUPP) => Trouble::Gone,
-        _ => Trouble::Broken,
+        Some(code) => trouble_of_number(code.unsigned_abs()),
+        None => Trouble::Broken,
     }
 }
