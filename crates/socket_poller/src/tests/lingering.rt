@@ -5,8 +5,9 @@ use outside::{Link, ReadOut};
 use poller::Reports;
 use std::io;
 use std::io::{ErrorKind, Read, Write};
-use std::net::{Shutdown, TcpStream};
+use std::net::{Net, Shutdown, TcpStream};
 use std::rt::Clock;
+use std::sync::Wait;
 use std::sync::atomic::{AtomicU64, Ordering};
 use std::test::Fail;
 use std::thread;
@@ -42,8 +43,8 @@ impl Clock for SetClock {
 }
 
 /// Lets a link of a client go, which was asked with a byte and answered with three.
-fn answer_and_let_go(
-    rt: &HostRuntime,
+fn answer_and_let_go<R: Net<Stream = TcpStream> + Wait>(
+    rt: &R,
     clock: &SetClock,
     listener: &mut SockListener,
     poller: &mut SockPoller<'_, SetClock>,
@@ -66,7 +67,7 @@ fn answer_and_let_go(
 }
 
 /// Polls so often that each place was looked at.
-fn poll_round(rt: &HostRuntime, poller: &mut SockPoller<'_, SetClock>, reports: &mut Reports) {
+fn poll_round<R: Wait>(rt: &R, poller: &mut SockPoller<'_, SetClock>, reports: &mut Reports) {
     for _ in 0..20 {
         poll(rt, poller, reports);
     }
@@ -123,21 +124,21 @@ fn a_link_lingers_until_its_peer_ends(rt: HostRuntime) -> Result<(), Fail> {
 }
 
 /// Sends until that fails, or so many pieces were sent. How many were.
-fn send_pieces(
-    rt: &HostRuntime,
+fn send_pieces<R: Wait>(
+    rt: &R,
     client: &mut TcpStream,
     poller: &mut SockPoller<'_, SetClock>,
     reports: &mut Reports,
+    piece: &[u8],
     pieces: u32,
 ) -> Result<u32, Fail> {
-    let piece = Vec::from_elem(rt.alloc(), b'x', 65_536)?;
     client.set_write_timeout(Some(Duration::from_millis(1)))?;
     let mut sent = 0u32;
     for _ in 0..1_000_000u32 {
         if sent >= pieces {
             break;
         }
-        match client.write(&piece) {
+        match client.write(piece) {
             Ok(_) => sent = sent.saturating_add(1),
             Err(e) if e.kind() == ErrorKind::WouldBlock => {}
             Err(_) => break,
@@ -156,10 +157,11 @@ fn a_peer_that_sends_too_much_is_closed(rt: HostRuntime) -> Result<(), Fail> {
     let poller = &mut pollers[0];
     let mut client = answer_and_let_go(&rt, &clock, &mut listener, poller, &mut reports)?;
     poll_round(&rt, poller, &mut reports);
-    let sent = send_pieces(&rt, &mut client, poller, &mut reports, 128)?;
+    let piece = Vec::from_elem(rt.alloc(), b'x', 65_536)?;
+    let sent = send_pieces(&rt, &mut client, poller, &mut reports, &piece, 128)?;
     assert_eq!(rt; sent, 128);
     assert_eq!(rt; poller.lingering(), 1);
-    let more = send_pieces(&rt, &mut client, poller, &mut reports, 1_024)?;
+    let more = send_pieces(&rt, &mut client, poller, &mut reports, &piece, 1_024)?;
     assert!(rt; more < 1_024);
     assert_eq!(rt; poller.lingering(), 0);
     Ok(())

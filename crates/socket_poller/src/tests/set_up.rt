@@ -6,8 +6,7 @@ use crate::{SockLink, SockListener, SockPoller};
 use outside::{AcceptOut, Link, Listener, ReadOut, WriteOut};
 use poller::{AddOut, PollOut, Poller, Reports};
 use reg_keys::{Dirs, Opening};
-use std::io;
-use std::net::{Ipv4Addr, SocketAddr, TcpStream};
+use std::net::{Ipv4Addr, Net, SocketAddr, TcpStream};
 use std::rt::Clock;
 use std::sync::Wait;
 use std::test::Fail;
@@ -17,8 +16,8 @@ use std::time::Duration;
 /// How often a side looks at most, a millisecond or ten apart.
 pub(super) const LOOKS: u32 = 2_000;
 
-/// How long a client waits at most.
-const PATIENCE: Duration = Duration::from_secs(20);
+/// How long a client waits at most, in seconds.
+const PATIENCE: u64 = 20;
 
 /// An opening with a descriptor, as a manager would make it.
 pub(super) fn opening(fd: u16) -> Opening
@@ -37,11 +36,15 @@ pub(super) fn listen(rt: &HostRuntime) -> Result<SockListener, Fail> {
 }
 
 /// A client of the listener.
-pub(super) fn connect(rt: &HostRuntime, listener: &SockListener) -> Result<TcpStream, Fail> {
+pub(super) fn connect<N: Net<Stream = TcpStream>>(
+    net: &N,
+    listener: &SockListener,
+) -> Result<TcpStream, Fail> {
     let address = SocketAddr::from((Ipv4Addr::LOCALHOST, listener.port()?));
-    let client = TcpStream::connect(rt, address)?;
-    client.set_read_timeout(Some(PATIENCE))?;
-    client.set_write_timeout(Some(PATIENCE))?;
+    let client = TcpStream::connect(net, address)?;
+    let patience = Some(Duration::from_secs(PATIENCE));
+    client.set_read_timeout(patience)?;
+    client.set_write_timeout(patience)?;
     Ok(client)
 }
 
