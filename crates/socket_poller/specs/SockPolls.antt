@@ -12,6 +12,10 @@ use Rattle.socket_poller.specs.declared.sock_poller.SockPoller.{SockPoller}
 abbrev pub faults_of : {R : Type 0} → SockPoller R → PollerFaults
 faults_of p = record { links = p.add_faults.n; polls = p.poll_faults.n }
 
+-- there was none
+abbrev pub no_faults : PollerFaults
+no_faults = record { links = 0; polls = 0 }
+
 -- a poll: whoever mustn't wait and was answered by the system last is told nothing, without the system; every other poll asks it, and its reports are those of the events that it gave
 pub record IsPoll {R : Type 0} (old : SockPoller R) (idle : Bool) (result : PollOut) (out : List Report) (new : SockPoller R) : Type 0 where
   pub asks : new.asked ≡ (idle || not old.asked)

@@ -1,7 +1,7 @@
 //! Links that were let go, on their way to the poller that they linger with.
 use crate::limits::{HAND_OVERS, LINGERING};
 use mio::net::TcpStream;
-use std::alloc::Global;
+use std::alloc::{AllocError, Global};
 use std::collections::VecDeque;
 use std::sync::Mutex;
 use std::thread::yield_now;
@@ -13,11 +13,11 @@ pub(crate) struct Departed {
 }
 
 impl Departed {
-    /// No link was let go.
-    pub fn new(alloc: Global) -> Departed {
-        Departed {
-            streams: Mutex::new(VecDeque::new(alloc)),
-        }
+    /// No link was let go. The room for sockets is taken now, so that letting a link go takes no memory.
+    pub fn new(alloc: Global) -> Result<Departed, AllocError> {
+        Ok(Departed {
+            streams: Mutex::new(VecDeque::with_capacity(alloc, LINGERING)?),
+        })
     }
 
     /// Puts a socket behind the others. Whoever lets a link go can't wait, so this tries for a while. Where

@@ -38,7 +38,7 @@ impl Group {
         let mut sets = Vec::with_capacity(alloc, polls.len())?;
         for poll in polls {
             let registry = poll.registry().try_clone()?;
-            let departed = Departed::new(alloc);
+            let departed = Departed::new(alloc)?;
             sets.push(Set { registry, departed })?;
         }
         Ok(Group {

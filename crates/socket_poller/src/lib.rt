@@ -14,10 +14,10 @@ mod fault;
 mod limits;
 
 // What is polled, and what an event says.
+mod report;
 mod sock_link;
 mod sock_listener;
 mod sock_poller;
-mod report;
 mod trouble;
 
 // What the pollers of one server share, and links that linger.
@@ -29,7 +29,7 @@ mod peer_ends;
 mod retry;
 
 pub use fault::SockFault;
-pub use limits::{IDLE_MILLIS, LINGERING, LINGER_BYTES, LINGER_SECONDS, POLLERS};
+pub use limits::{IDLE_MILLIS, LINGER_BYTES, LINGER_SECONDS, LINGERING, POLLERS};
 pub use sock_link::SockLink;
 pub use sock_listener::SockListener;
 pub use sock_poller::SockPoller;

@@ -1,5 +1,5 @@
 //! A link over a socket. It tells no bytes.
-ghost use Rattle.std.specs.Prelude.{◌≡◌, ◌<◌, Some, None, false, length, refl, OnErr};
+ghost use Rattle.std.specs.Prelude.{◌≡◌, ◌<◌, Some, None, false, length, refl, IsTrue, OnErr};
 ghost use Rattle.outside.specs.Causes.{bytes_got, bytes_taken, GivesWithin, Read, TakesWithin, Wrote};
 ghost use Rattle.outside.specs.ListenCauses.{IsUntouched};
 
@@ -8,9 +8,8 @@ use crate::retry::{read_once, write_once};
 use mio::Interest;
 use mio::net::TcpStream;
 use outside::{Count, Link, ReadOut, WriteOut};
-use std::io;
 use std::io::ErrorKind;
-use std::mem;
+use std::{io, mem};
 
 /// How far the talk with a peer went.
 #[derive(Clone, Copy)]
@@ -73,24 +72,37 @@ impl SockLink {
     /// Whether a read would surely have to wait: the last one took all that was there, and no end of the
     /// peer was reported since. That is asked once for each such read, so the next one asks the system.
     fn must_wait(&mut self) -> bool
-        ensures { told_of self.new ≡ told_of self.old }
+        ensures told { told_of self.new ≡ told_of self.old }
+        ensures only { IsTrue result → IsTrue self.old.drained }
+        ensures once { self.new.drained ≡ false }
     {
         let drained = mem::replace(&mut self.drained, false);
+        drained && !self.has_ended()
+    }
+
+    /// Whether the peer's end was reported. Where nothing is reported it may have come.
+    fn has_ended(&self) -> bool {
         match &self.home {
-            Some(home) => drained && !home.has_ended(),
-            None => false,
+            Some(home) => home.has_ended(),
+            None => true,
         }
     }
 }
 
 impl Link for SockLink {
-    ghost use Rattle.socket_poller.specs.SockLinks.{told_of};
+    ghost use Rattle.socket_poller.specs.SockLinks.{IsDrained, told_of};
 
     ghost told = { told_of };
 
     ghost sure = { false };
 
-    fn read(&mut self, buf: &mut [u8]) -> ReadOut {
+    // Where a read filled its buffer, the next one asks the system.
+    fn read(&mut self, buf: &mut [u8]) -> ReadOut
+        requires { 0 < length buf.old }
+        ensures within { GivesWithin result buf.new }
+        ensures read { Read result (bytes_got result buf.new) (told_of self.old) (told_of self.new) }
+        ensures drained { IsDrained result (length buf.new) self.new.drained }
+    {
         if self.must_wait() {
             self.read_waits.rise();
             return ReadOut::NotYet;

@@ -8,11 +8,11 @@ use crate::fault::SockFault;
 use crate::group::{Group, Set};
 use crate::home::Home;
 use crate::limits::{IDLE_MILLIS, LINGERING, POLLERS};
-use crate::peer_ends::PeerEnds;
 use crate::lingering::Lingerers;
+use crate::peer_ends::PeerEnds;
+use crate::report::{ends_reading, place_of, report_of};
 use crate::sock_link::SockLink;
 use crate::sock_listener::SockListener;
-use crate::report::{ends_reading, place_of, report_of};
 use mio::{Events, Poll};
 use outside::Count;
 use poller::{AddOut, PollOut, Poller, REPORTS, Reports};
@@ -41,6 +41,9 @@ pub struct SockPoller<'a, R> {
 }
 
 impl<'a, R> SockPoller<'a, R> {
+    ghost use Rattle.std.specs.Prelude.{All};
+    ghost use Rattle.socket_poller.specs.SockPolls.{faults_of, no_faults};
+
     /// So many pollers, one for each dispatcher. The clock is asked while links linger.
     pub fn group<N: Net>(
         net: &N,
@@ -49,7 +52,8 @@ impl<'a, R> SockPoller<'a, R> {
         count: usize,
     ) -> Result<Vec<SockPoller<'a, R>>, SockFault>
         requires { (1 ≤ count) × (count ≤ POLLERS) }
-        ensures { IfOk result (λ pollers. vec_len pollers ≡ count) }
+        ensures count { IfOk result (λ pollers. vec_len pollers ≡ count) }
+        ensures fresh { IfOk result (λ pollers. All (λ p. faults_of p ≡ no_faults) pollers.items) }
     {
         let mut polls = Vec::with_capacity(alloc, count)?;
         for _made in 0..count {
@@ -81,6 +85,7 @@ impl<'a, R> SockPoller<'a, R> {
         place: usize,
     ) -> Result<SockPoller<'a, R>, SockFault>
         requires { place < vec_len (arc_value group).sets }
+        ensures { IfOk result (λ poller. faults_of poller ≡ no_faults) }
     {
         Ok(SockPoller {
             clock,
@@ -164,7 +169,13 @@ impl<'a, R: Clock> Poller for SockPoller<'a, R> {
             self.poll_faults.rise();
             return PollOut::Failed;
         }
-        hear(&self.events, set, &self.group.ends, &mut self.lingerers, out);
+        hear(
+            &self.events,
+            set,
+            &self.group.ends,
+            &mut self.lingerers,
+            out,
+        );
         PollOut::Polled
     }
 

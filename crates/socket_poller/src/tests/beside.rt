@@ -1,9 +1,7 @@
-//! A server and a client in two threads, and pollers in two threads that share links.
-ghost use Rattle.poller.specs.Polls.{HasToken};
-
-use super::set_up::{LOOKS, accept_and_add, answer, connect, listen, opening, poll, read_to_end, wait_for};
+//! A server and a client in two threads.
+use super::set_up::{LOOKS, accept_and_add, answer, connect, listen, opening, poll, wait_for};
 use crate::{SockLink, SockListener, SockPoller};
-use outside::{Link, ReadOut};
+use outside::{AcceptOut, Link, Listener};
 use poller::Reports;
 use reg_keys::Opening;
 use std::io::{Read, Write};
@@ -40,13 +38,15 @@ fn send_and_read(client: &mut TcpStream, body: &[u8]) -> Option<usize> {
     None
 }
 
-/// Reads a little, answers and lets the link go, and polls until the client is done. Whether it answered.
+/// Reads a little, answers and lets the link go, and polls until the client is done. Whether it answered, and
+/// no other connection came.
 fn refuse<C: Clock, R: Wait>(
     rt: &R,
     poller: &mut SockPoller<'_, C>,
     reports: &mut Reports,
     mut link: SockLink,
     opening: Opening,
+    listener: &mut SockListener,
     done: &AtomicBool,
 ) -> bool {
     wait_for(rt, poller, reports, opening, true);
@@ -60,7 +60,7 @@ fn refuse<C: Clock, R: Wait>(
         }
         poll(rt, poller, reports);
     }
-    answered
+    answered && matches!(listener.accept(), AcceptOut::NotYet)
 }
 
 /// A client that sends a body, beside a server that refuses it.
@@ -69,6 +69,7 @@ fn refuse_beside<C: Clock + Sync, R: Threads + Wait + Sync>(
     poller: &mut SockPoller<'_, C>,
     reports: &mut Reports,
     link: SockLink,
+    listener: &mut SockListener,
     client: &mut TcpStream,
     body: &[u8],
 ) -> (Option<usize>, bool) {
@@ -76,7 +77,7 @@ fn refuse_beside<C: Clock + Sync, R: Threads + Wait + Sync>(
     join(
         rt,
         || send_and_ask(client, body, &done),
-        || refuse(rt, poller, reports, link, opening(9), &done),
+        || refuse(rt, poller, reports, link, opening(9), listener, &done),
     )
 }
 
@@ -89,7 +90,15 @@ fn the_answer_to_a_refused_body_is_read_whole(rt: HostRuntime) -> Result<(), Fai
     let mut client = connect(&rt, &listener)?;
     let link = accept_and_add(&rt, &mut listener, poller, opening(9))?;
     let body = Vec::from_elem(rt.alloc(), b'x', BODY)?;
-    let came = refuse_beside(&rt, poller, &mut reports, link, &mut client, &body);
+    let came = refuse_beside(
+        &rt,
+        poller,
+        &mut reports,
+        link,
+        &mut listener,
+        &mut client,
+        &body,
+    );
     assert_eq!(rt; came, (Some(20), true));
     Ok(())
 }

@@ -2,7 +2,7 @@
 use super::set_up::{LOOKS, accept, accept_and_add, answer, connect, listen, opening};
 use crate::{SockLink, SockListener, SockPoller};
 use outside::{AcceptOut, Link, Listener, ReadOut, WriteOut};
-use std::io::{Read, Write};
+use std::io::{ErrorKind, Read, Write};
 use std::net::TcpStream;
 use std::os::fd::{AsFd, OwnedFd};
 use std::test::Fail;
@@ -39,7 +39,7 @@ fn a_peer_that_goes_away_is_a_fault_of_its_link_alone(rt: HostRuntime) -> Result
 }
 
 #[test]
-fn a_connection_that_was_reset_holds_nobody_up(rt: HostRuntime) -> Result<(), Fail> {
+fn a_client_that_left_before_it_was_accepted_holds_nobody_up(rt: HostRuntime) -> Result<(), Fail> {
     let mut listener = listen(&rt)?;
     let mut gone = connect(&rt, &listener)?;
     gone.write_all(b"x")?;
@@ -71,7 +71,10 @@ fn take_all(rt: &HostRuntime, stream: &TcpStream) -> Result<Vec<OwnedFd>, Fail> 
 
 /// Whether the peer of a client ended, or reset it.
 fn is_turned_away(client: &mut TcpStream) -> bool {
-    matches!(client.read(&mut [0u8; 8]), Ok(0) | Err(_))
+    match client.read(&mut [0u8; 8]) {
+        Ok(count) => count == 0,
+        Err(e) => e.kind() == ErrorKind::ConnectionReset,
+    }
 }
 
 /// Accepts, where no descriptor is left. Whether the answer is to wait.

@@ -3,15 +3,14 @@ use super::set_up::{LOOKS, accept_and_add, answer, connect, listen, opening, pol
 use crate::{LINGER_SECONDS, LINGERING, SockListener, SockPoller};
 use outside::{Link, ReadOut};
 use poller::Reports;
-use std::io;
 use std::io::{ErrorKind, Read, Write};
 use std::net::{Net, Shutdown, TcpStream};
 use std::rt::Clock;
 use std::sync::Wait;
 use std::sync::atomic::{AtomicU64, Ordering};
 use std::test::Fail;
-use std::thread;
 use std::time::Duration;
+use std::{io, thread};
 
 /// A clock that a test sets.
 #[derive(Drop)]

@@ -1,5 +1,7 @@
 //! Polls, reports, reads and writes of one thread.
-use super::set_up::{accept, accept_and_add, answer, connect, listen, opening, poll, read_to_end, wait_for};
+use super::set_up::{
+    accept, accept_and_add, answer, connect, listen, opening, poll, read_to_end, wait_for,
+};
 use crate::{SockFault, SockListener, SockPoller};
 use outside::{Link, ReadOut};
 use poller::{AddOut, PollOut, Poller, Reports};
@@ -117,7 +119,10 @@ fn a_listener_is_reported_and_a_port_is_taken_once(rt: HostRuntime) -> Result<()
     let mut pollers = SockPoller::group(&rt, &rt, rt.alloc(), 1)?;
     let mut reports = Reports::new(rt.alloc())?;
     let poller = &mut pollers[0];
-    assert_eq!(rt; poller.add_listener(opening(2), &mut listener), AddOut::Added);
+    assert_eq!(rt;
+        poller.add_listener(opening(2), &mut listener),
+        AddOut::Added
+    );
     let _client = connect(&rt, &listener)?;
     assert!(rt; wait_for(&rt, poller, &mut reports, opening(2), true));
     let _link = accept(&rt, &mut listener)?;

@@ -1,10 +1,10 @@
 //! What the tests stand on: a listener, pollers, links and clients.
-ghost use Rattle.std.specs.Prelude.{◌<◌, ◌≤◌};
+ghost use Rattle.std.specs.Prelude.{◌<◌};
 ghost use Rattle.poller.specs.Polls.{HasToken};
 
 use crate::{SockLink, SockListener, SockPoller};
 use outside::{AcceptOut, Link, Listener, ReadOut, WriteOut};
-use poller::{AddOut, PollOut, Poller, Reports};
+use poller::{AddOut, Poller, Reports};
 use reg_keys::{Dirs, Opening};
 use std::net::{Ipv4Addr, Net, SocketAddr, TcpStream};
 use std::rt::Clock;
