@@ -57,6 +57,11 @@ impl SockLink {
         }
     }
 
+    /// Whether it was added to a poller.
+    pub(crate) fn is_added(&self) -> bool {
+        self.home.is_some()
+    }
+
     /// Registers it, once and for both directions. At an error it is as it was.
     pub(crate) fn join(&mut self, home: Home) -> io::Result<()>
         ensures told { told_of self.new ≡ told_of self.old }

@@ -132,6 +132,9 @@ impl<'a, R: Clock> Poller for SockPoller<'a, R> {
     ghost meaning = { record { faults = faults_of; polled = λ _. None; polls = IsPoll } };
 
     fn add(&mut self, opening: Opening, link: &mut SockLink) -> AddOut {
+        if link.is_added() {
+            return AddOut::Added;
+        }
         let place = self.group.next_place(self.place);
         let Ok(home) = Home::new(&self.group, place, opening) else {
             return AddOut::NoMemory;
@@ -144,6 +147,9 @@ impl<'a, R: Clock> Poller for SockPoller<'a, R> {
     }
 
     fn add_listener(&mut self, opening: Opening, listener: &mut SockListener) -> AddOut {
+        if listener.is_added() {
+            return AddOut::Added;
+        }
         let Ok(home) = Home::new(&self.group, self.place, opening) else {
             return AddOut::NoMemory;
         };

@@ -1,12 +1,14 @@
 //! Polls, reports, reads and writes of one thread.
+ghost use Rattle.std.specs.Prelude.{◌≤◌};
+
 use super::set_up::{
     accept, accept_and_add, answer, connect, listen, opening, poll, read_to_end, wait_for,
 };
-use crate::{SockFault, SockListener, SockPoller};
+use crate::{SockFault, SockLink, SockListener, SockPoller};
 use outside::{Link, ReadOut};
 use poller::{AddOut, PollOut, Poller, Reports};
 use std::io::{Read, Write};
-use std::net::Shutdown;
+use std::net::{Shutdown, TcpStream};
 use std::test::Fail;
 
 #[test]
@@ -94,6 +96,24 @@ fn every_second_poll_that_mustnt_wait_asks_the_system(rt: HostRuntime) -> Result
     Ok(())
 }
 
+/// Adds the links of so many new clients.
+fn add_links(
+    rt: &HostRuntime,
+    listener: &mut SockListener,
+    poller: &mut SockPoller<'_, HostRuntime>,
+    count: u16,
+) -> Result<Vec<(TcpStream, SockLink)>, Fail>
+    requires { count ≤ 4096 }
+{
+    let mut links = Vec::new(rt.alloc());
+    for fd in 0..count {
+        let client = connect(rt, listener)?;
+        let link = accept_and_add(rt, listener, poller, opening(fd))?;
+        links.push((client, link))?;
+    }
+    Ok(links)
+}
+
 #[test]
 fn links_are_spread_over_the_pollers_that_poll(rt: HostRuntime) -> Result<(), Fail> {
     let mut listener = listen(&rt)?;
@@ -101,12 +121,7 @@ fn links_are_spread_over_the_pollers_that_poll(rt: HostRuntime) -> Result<(), Fa
     let mut reports = Reports::new(rt.alloc())?;
     assert_eq!(rt; poll(&rt, &mut pollers[0], &mut reports), 0);
     assert_eq!(rt; poll(&rt, &mut pollers[2], &mut reports), 0);
-    let mut clients = Vec::new(rt.alloc());
-    let mut links = Vec::new(rt.alloc());
-    for fd in 0..6u16 {
-        clients.push(connect(&rt, &listener)?)?;
-        links.push(accept_and_add(&rt, &mut listener, &mut pollers[0], opening(fd))?)?;
-    }
+    let _links = add_links(&rt, &mut listener, &mut pollers[0], 6)?;
     assert_eq!(rt; poll(&rt, &mut pollers[0], &mut reports), 3);
     assert_eq!(rt; poll(&rt, &mut pollers[1], &mut reports), 0);
     assert_eq!(rt; poll(&rt, &mut pollers[2], &mut reports), 3);
@@ -123,9 +138,16 @@ fn a_listener_is_reported_and_a_port_is_taken_once(rt: HostRuntime) -> Result<()
         poller.add_listener(opening(2), &mut listener),
         AddOut::Added
     );
+    assert_eq!(rt;
+        poller.add_listener(opening(2), &mut listener),
+        AddOut::Added
+    );
     let _client = connect(&rt, &listener)?;
     assert!(rt; wait_for(&rt, poller, &mut reports, opening(2), true));
-    let _link = accept(&rt, &mut listener)?;
+    let mut link = accept(&rt, &mut listener)?;
+    assert_eq!(rt; poller.add(opening(3), &mut link), AddOut::Added);
+    assert_eq!(rt; poller.add(opening(4), &mut link), AddOut::Added);
+    assert!(rt; wait_for(&rt, poller, &mut reports, opening(3), false));
     let again = SockListener::bind(&rt, [127, 0, 0, 1], listener.port()?);
     assert!(rt; matches!(again, Err(SockFault::Machine(98))));
     Ok(())
