@@ -1,5 +1,5 @@
 -- To be believed: the reports that the events of the system make.
-use Rattle.std.specs.Prelude.{ℕ, Bool, true, false, ◌||◌, Option, Some, None, List, if◌then◌else◌, nat_lt}
+use Rattle.std.specs.Prelude.{Bool, true, false, ◌||◌, Option, Some, None, List, if◌then◌else◌, nat_lt}
 use Rattle.std.specs.List.{filter_map}
 use Rattle.mio.specs.declared.event.event.Event.{Event}
 use Rattle.mio.specs.Event.{event_token, is_error, is_read_closed, is_readable, is_writable, is_write_closed}
