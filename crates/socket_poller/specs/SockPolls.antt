@@ -1,6 +1,7 @@
 -- To be believed: what a poll of sockets owes.
-use Rattle.std.specs.Prelude.{◌≡◌, Bool, true, false, not, ◌||◌, List, []}
+use Rattle.std.specs.Prelude.{◌≡◌, ℕ, Bool, true, false, not, ◌||◌, List, []}
 use Rattle.mio.specs.Events.{items}
+use Rattle.slab.specs.Slab.{slab_len}
 use Rattle.poller.specs.declared.poller.PollOut.{PollOut}
 use Rattle.poller.specs.declared.poller.PollOut.TheVariants.{Polled}
 use Rattle.poller.specs.Faults.{PollerFaults, PollsLeave}
@@ -11,6 +12,10 @@ use Rattle.socket_poller.specs.declared.sock_poller.SockPoller.{SockPoller}
 -- how many faults there were
 abbrev pub faults_of : {R : Type 0} → SockPoller R → PollerFaults
 faults_of p = record { links = p.add_faults.n; polls = p.poll_faults.n }
+
+-- how many links linger with a poller
+abbrev pub lingering_of : {R : Type 0} → SockPoller R → ℕ
+lingering_of p = slab_len p.lingerers.places
 
 -- there was none
 abbrev pub no_faults : PollerFaults

@@ -42,9 +42,9 @@ pub struct SockPoller<'a, R> {
 
 impl<'a, R> SockPoller<'a, R> {
     ghost use Rattle.std.specs.Prelude.{All};
-    ghost use Rattle.socket_poller.specs.SockPolls.{faults_of, no_faults};
+    ghost use Rattle.socket_poller.specs.SockPolls.{faults_of, lingering_of, no_faults};
 
-    /// So many pollers, one for each dispatcher. The clock is asked while links linger.
+    /// So many pollers, one for each dispatcher. The clock tells how long links lingered.
     pub fn group<N: Net>(
         net: &N,
         clock: &'a R,
@@ -71,7 +71,8 @@ impl<'a, R> SockPoller<'a, R> {
 
     /// How many links linger with it.
     pub fn lingering(&self) -> usize
-        ensures { result ≤ LINGERING }
+        ensures count { result ≡ lingering_of self.now }
+        ensures few { result ≤ LINGERING }
     {
         self.lingerers.count()
     }
