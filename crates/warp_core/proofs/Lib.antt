@@ -1,0 +1,6 @@
+pub mod Apart
+pub mod Halting
+pub mod Levelled
+pub mod Looked
+pub mod RowLists
+pub mod Serving
