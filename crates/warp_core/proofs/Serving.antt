@@ -1,6 +1,6 @@
 -- A dispatcher serves on where calls changed its passes.
 use Rattle.std.proofs.Common.{◌≡◌, ℕ, ◌≤◌, [], refl, sym, ap, ◌∙◌, subst, arith}
-use denote.Ref.{Bor}
+use Rattle.std.specs.Arc.{arc_value}
 use Rattle.outside.specs.declared.files.Files.{Ghosts}
 use Rattle.turn_cell.specs.Calls.{view_of}
 use Rattle.timeout_mgr.specs.declared.timeouts.Timeouts.{Timeouts}
@@ -33,10 +33,6 @@ module _ {L : Type 0} where
     tally = grown_then u.tally v.tally w.tally a.tally b.tally;
   }
 
--- references that are the same refer to the same
-now_same : {T : Type 0} (r q : Bor T) → r ≡ q → r.now ≡ q.now
-now_same {T} r q same = ap (λ (z : Bor T). z.now) same
-
 module _ {P F C B G L I X : Type 0} {H : Ghosts F X} where
   pub goes_same : (row : Row P F C B G L I X H) → HasGoneOn row row
   goes_same row = record { passes = pass_same (known_by row); limit = refl }
@@ -46,28 +42,25 @@ module _ {P F C B G L I X : Type 0} {H : Ghosts F X} where
 
   -- its passes are of what all share as before
   pub own_on : (s : Shared (Job P F L I X) F X H) (x y : Row P F C B G L I X H) → IsRowOf s x → Turns.AreOf s.mgr s.queue y.disp
-      → AreOfCells y.runner.times.now y.runner.timed y.runner.cache.now y.runner.cached y.runner.tally.now y.runner.tallied
-      → y.runner.times ≡ x.runner.times → y.runner.cache ≡ x.runner.cache → y.runner.tally ≡ x.runner.tally → IsRowOf s y
-  own_on s x y own disp cells times cache tally =
-      let t : y.runner.times.now ≡ s.times = now_same y.runner.times x.runner.times times ∙ own.times in
-      let c : y.runner.cache.now ≡ s.cache = now_same y.runner.cache x.runner.cache cache ∙ own.cache in
-      let l : y.runner.tally.now ≡ s.tally = now_same y.runner.tally x.runner.tally tally ∙ own.tally in record {
+      → AreOfCells (arc_value y.runner.shared).times y.runner.timed (arc_value y.runner.shared).cache y.runner.cached (arc_value y.runner.shared).tally y.runner.tallied
+      → y.runner.shared ≡ x.runner.shared → IsRowOf s y
+  own_on s x y own disp cells same =
+      let to : arc_value y.runner.shared ≡ s = ap arc_value same ∙ own.shared in record {
         passes = record {
           disp = disp;
-          times = subst (λ z. TimeCalls.IsOf z y.runner.timed) t cells.of_times;
-          cache = subst (λ z. IsCacheOf z y.runner.cached) c cells.of_cache;
-          tally = subst (λ z. IsTallyOf z y.runner.tallied) l cells.of_tally;
+          times = subst (λ (z : Shared (Job P F L I X) F X H). TimeCalls.IsOf z.times y.runner.timed) to cells.of_times;
+          cache = subst (λ (z : Shared (Job P F L I X) F X H). IsCacheOf z.cache y.runner.cached) to cells.of_cache;
+          tally = subst (λ (z : Shared (Job P F L I X) F X H). IsTallyOf z.tally y.runner.tallied) to cells.of_tally;
         };
-        times = t;
-        cache = c;
-        tally = l;
+        shared = to;
       }
 
   -- and they are of the cells that it calls
   pub cells_of : (s : Shared (Job P F L I X) F X H) (x : Row P F C B G L I X H) → IsRowOf s x
-      → AreOfCells x.runner.times.now x.runner.timed x.runner.cache.now x.runner.cached x.runner.tally.now x.runner.tallied
-  cells_of s x own = record {
-    of_times = subst (λ z. TimeCalls.IsOf z x.runner.timed) (sym own.times) own.passes.times;
-    of_cache = subst (λ z. IsCacheOf z x.runner.cached) (sym own.cache) own.passes.cache;
-    of_tally = subst (λ z. IsTallyOf z x.runner.tallied) (sym own.tally) own.passes.tally;
-  }
+      → AreOfCells (arc_value x.runner.shared).times x.runner.timed (arc_value x.runner.shared).cache x.runner.cached (arc_value x.runner.shared).tally x.runner.tallied
+  cells_of s x own =
+      let from : s ≡ arc_value x.runner.shared = sym own.shared in record {
+        of_times = subst (λ (z : Shared (Job P F L I X) F X H). TimeCalls.IsOf z.times x.runner.timed) from own.passes.times;
+        of_cache = subst (λ (z : Shared (Job P F L I X) F X H). IsCacheOf z.cache x.runner.cached) from own.passes.cache;
+        of_tally = subst (λ (z : Shared (Job P F L I X) F X H). IsTallyOf z.tally x.runner.tallied) from own.passes.tally;
+      }

@@ -1,5 +1,6 @@
 -- Inner: dispatchers that are made, and taken apart.
 use Rattle.std.specs.Prelude.{◌≡◌, ℕ, List, map, Option, None}
+use Rattle.std.specs.Arc.{arc_value}
 use Rattle.outside.specs.declared.files.Files.{Ghosts}
 use Rattle.warp_jobs.specs.declared.job.Job.{Job}
 use Rattle.warp_jobs.specs.declared.kit.Kit.{Kit}
@@ -11,9 +12,7 @@ use Rattle.warp_core.specs.Rows.{passes_of}
 module _ {P F C B G L I X : Type 0} {H : Ghosts F X} where
   -- a dispatcher calls what all share, and made no turn
   pub record IsPlain (s : Shared (Job P F L I X) F X H) (limit : ℕ) (row : Row P F C B G L I X H) : Type 0 where
-    pub times : row.runner.times.now ≡ s.times
-    pub cache : row.runner.cache.now ≡ s.cache
-    pub tally : row.runner.tally.now ≡ s.tally
+    pub shared : arc_value row.runner.shared ≡ s
     pub limit_is : row.runner.limit ≡ limit
     pub goes_on : row.halted ≡ None
 

@@ -1,5 +1,6 @@
 -- To be believed: a dispatcher between two turns. Its passes are of what all share, and a journal explains what it did.
 use Rattle.std.specs.Prelude.{◌≡◌, ℕ, ◌≤◌, List, [], Option, Some, None}
+use Rattle.std.specs.Arc.{arc_value}
 use Rattle.outside.specs.declared.files.Files.{Ghosts}
 use Rattle.turn_cell.specs.declared.view.View.{View}
 use Rattle.turn_cell.specs.Weights.{weigh}
@@ -42,9 +43,7 @@ module _ {P F C B G L I X : Type 0} {H : Ghosts F X} where
   -- its passes are of what all share, which it calls
   pub record IsRowOf (s : Shared (Job P F L I X) F X H) (row : Row P F C B G L I X H) : Type 0 where
     pub passes : AreOf s (passes_of row)
-    pub times : row.runner.times.now ≡ s.times
-    pub cache : row.runner.cache.now ≡ s.cache
-    pub tally : row.runner.tally.now ≡ s.tally
+    pub shared : arc_value row.runner.shared ≡ s
 
   -- what is known of what it did
   abbrev pub told_by : (B → BookTold) → Row P F C B G L I X H → ServeTold

@@ -55,7 +55,6 @@ impl<F: Files> Beats<F> {
 /// Asks the clock, and sweeps where that is due, if the dispatcher keeps the beats. It answers the code with which
 /// the dispatcher stops, if it does.
 pub(crate) fn beat<
-    's,
     P: Poller,
     F: Files,
     C: Clock,
@@ -65,7 +64,7 @@ pub(crate) fn beat<
 >(
     rt: &R,
     shared: &Shared<Job<P, F>, F>,
-    row: &mut Row<'s, P, F, C, B, G>,
+    row: &mut Row<P, F, C, B, G>,
 ) -> Option<u8>
     requires { Serves B.told P.meaning.faults shared.now row.old }
     ensures serves { Serves B.told P.meaning.faults shared.now row.new }
@@ -83,7 +82,6 @@ pub(crate) fn beat<
 /// Ends the connections on which nothing happened since the last sweep, and closes each file that nobody uses at
 /// this moment.
 fn clean<
-    's,
     P: Poller,
     F: Files,
     C: Clock,
@@ -93,7 +91,7 @@ fn clean<
 >(
     rt: &R,
     shared: &Shared<Job<P, F>, F>,
-    row: &mut Row<'s, P, F, C, B, G>,
+    row: &mut Row<P, F, C, B, G>,
     beats: &mut Beats<F>,
 ) -> Option<u8>
     requires { Serves B.told P.meaning.faults shared.now row.old }
@@ -112,7 +110,6 @@ fn clean<
 
 /// Sweeps the watches, and ends the connections whose openings the sweep gave.
 fn sweep<
-    's,
     P: Poller,
     F: Files,
     C: Clock,
@@ -122,7 +119,7 @@ fn sweep<
 >(
     rt: &R,
     shared: &Shared<Job<P, F>, F>,
-    row: &mut Row<'s, P, F, C, B, G>,
+    row: &mut Row<P, F, C, B, G>,
     expired: &mut Expired,
 ) -> Option<u8>
     requires { Serves B.told P.meaning.faults shared.now row.old }
@@ -133,10 +130,10 @@ fn sweep<
 }
 
 /// Closes the files that nobody asked for since the last reap.
-fn reap<'s, P: Poller, F: Files, C: Clock, B: Book<Finished<P::Link, F>>, G: Gate, R: Wait>(
+fn reap<P: Poller, F: Files, C: Clock, B: Book<Finished<P::Link, F>>, G: Gate, R: Wait>(
     rt: &R,
     shared: &Shared<Job<P, F>, F>,
-    row: &mut Row<'s, P, F, C, B, G>,
+    row: &mut Row<P, F, C, B, G>,
     beats: &mut Beats<F>,
 ) -> Option<u8>
     requires { Serves B.told P.meaning.faults shared.now row.old }

@@ -24,5 +24,5 @@ mod serve;
 pub use serve::serve_loop;
 pub use served::{Counts, ServeEnd, Served};
 
-#[cfg(test)]
-mod tests;
+
+

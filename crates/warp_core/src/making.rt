@@ -1,5 +1,6 @@
 //! Dispatchers are made of passes and kits, and taken apart into them at the end.
 ghost use Rattle.std.specs.Prelude.{◌≡◌, ◌≤◌, [], All, IfOk, length, map, vec_capacity};
+ghost use Rattle.std.specs.Arc.{arc_value};
 ghost use Rattle.poller.specs.Faults.{PollerFaults};
 ghost use Rattle.warp_books.specs.Books.{IsBookOf};
 ghost use Rattle.warp_passes.specs.Levels.{AreNewPasses};
@@ -9,9 +10,11 @@ ghost use Rattle.warp_core.specs.Rows.{Serves, passes_of};
 use crate::beat::Beats;
 use crate::row::Row;
 use conn_loop::Scratch;
+use fd_cache::Lease;
 use outside::{Clock, Files};
 use poller::{Poller, Reports};
 use std::alloc::{AllocError, Global};
+use std::sync::Arc;
 use warp_books::{Book, Finished};
 use warp_jobs::{Gate, Job, Kit};
 use warp_passes::{ServePass, Shared, new_passes_did_nothing};
@@ -19,7 +22,6 @@ use warp_runner::ServerRunner;
 
 /// Dispatchers that made no turn, with these passes and kits, in their order. The first one keeps the beats.
 pub(crate) fn rows_of<
-    's,
     P: Poller + Drop,
     F: Files + Drop,
     C: Clock + Drop,
@@ -27,25 +29,25 @@ pub(crate) fn rows_of<
     G: Gate + Drop,
 >(
     alloc: Global,
-    shared: &'s Shared<Job<P, F>, F>,
+    shared: &Arc<Shared<Job<P, F>, F>>,
     passes: Vec<ServePass<Job<P, F>, F>>,
     kits: Vec<Kit<P, F, C, B, G>>,
     limit: u64,
     seconds: u64,
-) -> Result<Vec<Row<'s, P, F, C, B, G>>, AllocError>
+) -> Result<Vec<Row<P, F, C, B, G>>, AllocError>
     requires count { length passes.items ≡ length kits.items }
-    requires new { AreNewPasses shared.now passes.items }
+    requires new { AreNewPasses (arc_value shared.now) passes.items }
     requires books { All (λ kit. IsBookOf [] (B.told kit.book)) kits.items }
-    ensures serve { IfOk result (λ rows. All (λ row. Serves B.told P.meaning.faults shared.now row) rows.items) }
+    ensures serve { IfOk result (λ rows. All (λ row. Serves B.told P.meaning.faults (arc_value shared.now) row) rows.items) }
     ensures limit { IfOk result (λ rows. All (λ row. row.runner.limit ≡ limit) rows.items) }
     ensures passes { IfOk result (λ rows. map passes_of rows.items ≡ passes.items) }
 {
     // A law of new passes, for the proof: it does nothing when run.
-    new_passes_did_nothing::<F>();
+    new_passes_did_nothing::<Lease<F>>();
     let mut rows = Vec::with_capacity(alloc, passes.len())?;
     for (pass, kit) in passes.into_iter().zip(kits) {
         let beats = beats_of(alloc, seconds, rows.is_empty())?;
-        rows.push_reserved(row_of(alloc, shared, pass, kit, limit, beats)?);
+        rows.push_reserved(row_of(alloc, shared.clone()?, pass, kit, limit, beats)?);
     }
     Ok(rows)
 }
@@ -63,17 +65,17 @@ fn beats_of<F: Files>(
 }
 
 /// A dispatcher that made no turn.
-fn row_of<'s, P: Poller + Drop, F: Files + Drop, C: Drop, B: Drop, G: Drop>(
+fn row_of<P: Poller + Drop, F: Files + Drop, C: Drop, B: Drop, G: Drop>(
     alloc: Global,
-    shared: &'s Shared<Job<P, F>, F>,
+    shared: Arc<Shared<Job<P, F>, F>>,
     pass: ServePass<Job<P, F>, F>,
     kit: Kit<P, F, C, B, G>,
     limit: u64,
     beats: Option<Beats<F>>,
-) -> Result<Row<'s, P, F, C, B, G>, AllocError>
+) -> Result<Row<P, F, C, B, G>, AllocError>
     ensures pass { IfOk result (λ row. passes_of row ≡ pass) }
     ensures book { IfOk result (λ row. row.runner.book ≡ kit.book) }
-    ensures plain { IfOk result (λ row. IsPlain shared.now limit row) }
+    ensures plain { IfOk result (λ row. IsPlain (arc_value shared) limit row) }
 {
     let ServePass { disp, times, cache, tally } = pass;
     let Kit { poller, files, clock, book, gate } = kit;
@@ -82,9 +84,7 @@ fn row_of<'s, P: Poller + Drop, F: Files + Drop, C: Drop, B: Drop, G: Drop>(
     Ok(Row {
         disp,
         runner: ServerRunner {
-            times: &shared.times,
-            cache: &shared.cache,
-            tally: &shared.tally,
+            shared,
             timed: times,
             cached: cache,
             tallied: tally,

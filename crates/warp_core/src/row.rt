@@ -20,9 +20,9 @@ pub(crate) enum Halted {
 
 /// One dispatcher: its passes of the manager and of the queue, its runner, and how it stopped.
 #[derive(Drop)]
-pub(crate) struct Row<'s, P: Poller, F: Files, C, B, G> {
+pub(crate) struct Row<P: Poller, F: Files, C, B, G> {
     pub(crate) disp: DispPass<Job<P, F>>,
-    pub(crate) runner: ServerRunner<'s, P, F, C, B, G>,
+    pub(crate) runner: ServerRunner<P, F, C, B, G>,
     pub(crate) reports: Reports,
     /// The beats, of the one dispatcher that keeps them.
     pub(crate) beats: Option<Beats<F>>,

@@ -1,5 +1,6 @@
 //! The server from its listener to its end.
 ghost use Rattle.std.specs.Prelude.{◌≡◌, ◌<◌, ◌≤◌, [], All, IfOk, length, map};
+ghost use Rattle.std.specs.Arc.{arc_value};
 ghost use Rattle.turn_cell.specs.Weights.{weigh};
 ghost use Rattle.poller.specs.Faults.{PollerFaults};
 ghost use Rattle.warp_books.specs.Books.{IsBookOf};
@@ -19,7 +20,7 @@ use fd_cache::Lease;
 use outside::{Clock, Files};
 use poller::Poller;
 use std::alloc::{AllocError, Global};
-use std::sync::Wait;
+use std::sync::{Arc, Wait};
 use std::thread::{Threads, for_each_mut};
 use warp_books::{Book, Finished};
 use warp_jobs::{Gate, Job, Kit};
@@ -58,7 +59,7 @@ where
     requires books { All (λ kit. IsBookOf [] (B.told kit.book)) kits.items }
     requires listener { (P.Listener.told listener).failed_row ≡ 0 }
     requires least { (0 < limit) × (0 < seconds) }
-    ensures own { IfOk result (λ served. All (λ pass. AreOf served.shared pass) served.passes.items) }
+    ensures own { IfOk result (λ served. All (λ pass. AreOf (arc_value served.shared) pass) served.passes.items) }
     ensures level { IfOk result (λ served. ArePassesLevel pass_view served.passes.items) }
     ensures explained { IfOk result (λ served. AreExplained B.told limit served.passes.items served.kits.items) }
     ensures count { IfOk result (λ served. length served.kits.items ≡ length kits.items) }
@@ -69,6 +70,7 @@ where
     moved_passes_hold_the_seats::<Served<P, F, C, B, G>, Row<P, F, C, B, G>, Lease<F>>();
     let parts = Parts::with_capacity(alloc, kits.len())?;
     let (shared, passes) = shared_among(alloc, kits.len())?;
+    let shared = Arc::new(alloc, shared)?;
     let mut rows = rows_of(alloc, &shared, passes, kits, limit, seconds)?;
     begin(rt, &shared, rows.as_mut_slice(), listener);
     let end = serve_on(rt, &shared, rows.as_mut_slice(), limit);
@@ -77,10 +79,10 @@ where
 }
 
 /// The first dispatcher begins to listen.
-fn begin<'s, P: Poller, F: Files, C: Clock, B: Book<Finished<P::Link, F>>, G: Gate, R: Wait>(
+fn begin<P: Poller, F: Files, C: Clock, B: Book<Finished<P::Link, F>>, G: Gate, R: Wait>(
     rt: &R,
     shared: &Shared<Job<P, F>, F>,
-    rows: &mut [Row<'s, P, F, C, B, G>],
+    rows: &mut [Row<P, F, C, B, G>],
     listener: P::Listener,
 )
     requires some { 0 < length rows.old }
@@ -93,16 +95,16 @@ fn begin<'s, P: Poller, F: Files, C: Clock, B: Book<Finished<P::Link, F>>, G: Ga
     ensures limit { map (λ row. row.runner.limit) rows.new ≡ map (λ row. row.runner.limit) rows.old }
 {
     // A law of seats, for the proof: it does nothing when run.
-    grown_passes_hold_the_seats::<Row<'s, P, F, C, B, G>, Lease<F>>();
+    grown_passes_hold_the_seats::<Row<P, F, C, B, G>, Lease<F>>();
     let row = &mut rows[0];
     listen(rt, shared, row, listener);
 }
 
 /// A dispatcher begins to listen, or makes no turn.
-fn listen<'s, P: Poller, F: Files, C: Clock, B: Book<Finished<P::Link, F>>, G: Gate, R: Wait>(
+fn listen<P: Poller, F: Files, C: Clock, B: Book<Finished<P::Link, F>>, G: Gate, R: Wait>(
     rt: &R,
     shared: &Shared<Job<P, F>, F>,
-    row: &mut Row<'s, P, F, C, B, G>,
+    row: &mut Row<P, F, C, B, G>,
     listener: P::Listener,
 )
     requires serves { Serves B.told P.meaning.faults shared.now row.old }
@@ -120,10 +122,10 @@ fn listen<'s, P: Poller, F: Files, C: Clock, B: Book<Finished<P::Link, F>>, G: G
 }
 
 /// Turns all dispatchers until the server ended.
-fn serve_on<'s, P, F, C, B, G, R>(
+fn serve_on<P, F, C, B, G, R>(
     rt: &R,
     shared: &Shared<Job<P, F>, F>,
-    rows: &mut [Row<'s, P, F, C, B, G>],
+    rows: &mut [Row<P, F, C, B, G>],
     limit: u64,
 ) -> ServeEnd
 where
@@ -155,10 +157,10 @@ where
 }
 
 /// Turns all dispatchers, each in a thread of its own, until they make no further turn.
-fn turn_all<'s, P, F, C, B, G, R>(
+fn turn_all<P, F, C, B, G, R>(
     rt: &R,
     shared: &Shared<Job<P, F>, F>,
-    rows: &mut [Row<'s, P, F, C, B, G>],
+    rows: &mut [Row<P, F, C, B, G>],
 )
 where
     P: Poller + Send,
@@ -177,7 +179,7 @@ where
     ensures limit { map (λ row. row.runner.limit) rows.new ≡ map (λ row. row.runner.limit) rows.old }
 {
     // A law of seats, for the proof: it does nothing when run.
-    grown_passes_hold_the_seats::<Row<'s, P, F, C, B, G>, Lease<F>>();
+    grown_passes_hold_the_seats::<Row<P, F, C, B, G>, Lease<F>>();
     for_each_mut(
         rt,
         rows,

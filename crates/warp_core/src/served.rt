@@ -2,6 +2,7 @@
 
 use outside::Files;
 use poller::Poller;
+use std::sync::Arc;
 use warp_jobs::{Job, Kit};
 use warp_passes::{ServePass, Shared};
 
@@ -31,7 +32,7 @@ pub enum ServeEnd {
 #[derive(Drop)]
 pub struct Served<P: Poller, F: Files, C, B, G> {
     pub end: ServeEnd,
-    pub shared: Shared<Job<P, F>, F>,
+    pub shared: Arc<Shared<Job<P, F>, F>>,
     pub passes: Vec<ServePass<Job<P, F>, F>>,
     pub kits: Vec<Kit<P, F, C, B, G>>,
     pub listener: Option<P::Listener>,

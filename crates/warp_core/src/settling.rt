@@ -26,7 +26,6 @@ use warp_tally::{TallyReply, full_counts_close_each, replies_show_the_counts};
 
 /// Brings the passes of all dispatchers level, and says how the server ended, if it did.
 pub(crate) fn settle<
-    's,
     P: Poller,
     F: Files,
     C: Clock,
@@ -36,7 +35,7 @@ pub(crate) fn settle<
 >(
     rt: &R,
     shared: &Shared<Job<P, F>, F>,
-    rows: &mut [Row<'s, P, F, C, B, G>],
+    rows: &mut [Row<P, F, C, B, G>],
     limit: u64,
 ) -> Option<ServeEnd>
     requires some { 0 < length rows.old }
@@ -58,7 +57,6 @@ pub(crate) fn settle<
 
 /// Brings all passes level, looks at the tally, and brings them level again, so that each has seen the look.
 fn show_over<
-    's,
     P: Poller,
     F: Files,
     C: Clock,
@@ -68,7 +66,7 @@ fn show_over<
 >(
     rt: &R,
     shared: &Shared<Job<P, F>, F>,
-    rows: &mut [Row<'s, P, F, C, B, G>],
+    rows: &mut [Row<P, F, C, B, G>],
     limit: u64,
 ) -> Option<ServeEnd>
     requires some { 0 < length rows.old }
@@ -82,7 +80,7 @@ fn show_over<
     ensures ends { ShowsOver known_by limit result rows.new }
 {
     // Laws, for the proof: they do nothing when run.
-    level_passes_add_up::<Row<'s, P, F, C, B, G>, Lease<F>>();
+    level_passes_add_up::<Row<P, F, C, B, G>, Lease<F>>();
     replies_show_the_counts();
     full_counts_close_each();
     bring_level(shared, rows);
@@ -93,7 +91,6 @@ fn show_over<
 
 /// Brings the passes of all dispatchers level.
 fn bring_level<
-    's,
     P: Poller,
     F: Files,
     C: Clock,
@@ -101,7 +98,7 @@ fn bring_level<
     G: Gate,
 >(
     shared: &Shared<Job<P, F>, F>,
-    rows: &mut [Row<'s, P, F, C, B, G>],
+    rows: &mut [Row<P, F, C, B, G>],
 )
     requires serve { All (λ row. Serves B.told P.meaning.faults shared.now row) rows.old }
     requires seats { SeatsAreOnce known_by rows.old }
@@ -113,13 +110,12 @@ fn bring_level<
     ensures keeps { OwnIsKept known_by rows.old rows.new }
 {
     // A law of levelling, for the proof: it does nothing when run.
-    levelled_rows_are_level::<Row<'s, P, F, C, B, G>, Lease<F>>();
+    levelled_rows_are_level::<Row<P, F, C, B, G>, Lease<F>>();
     bring_rows_level(shared, rows);
 }
 
 /// Looks at the tally with the first dispatcher's pass.
 fn look_first<
-    's,
     P: Poller,
     F: Files,
     C: Clock,
@@ -129,7 +125,7 @@ fn look_first<
 >(
     rt: &R,
     shared: &Shared<Job<P, F>, F>,
-    rows: &mut [Row<'s, P, F, C, B, G>],
+    rows: &mut [Row<P, F, C, B, G>],
     limit: u64,
 ) -> Option<ServeEnd>
     requires some { 0 < length rows.old }
@@ -141,7 +137,7 @@ fn look_first<
     ensures looked { HasLooked known_by limit result rows.old rows.new }
 {
     // A law of seats, for the proof: it does nothing when run.
-    grown_passes_hold_the_seats::<Row<'s, P, F, C, B, G>, Lease<F>>();
+    grown_passes_hold_the_seats::<Row<P, F, C, B, G>, Lease<F>>();
     let row = &mut rows[0];
     look_for_over(rt, shared, row, limit)
 }
@@ -149,7 +145,6 @@ fn look_first<
 /// Whether a look at the tally shows that as many links were accepted as was to be, and that each is finished or
 /// was turned away.
 fn look_for_over<
-    's,
     P: Poller,
     F: Files,
     C: Clock,
@@ -159,7 +154,7 @@ fn look_for_over<
 >(
     rt: &R,
     shared: &Shared<Job<P, F>, F>,
-    row: &mut Row<'s, P, F, C, B, G>,
+    row: &mut Row<P, F, C, B, G>,
     limit: u64,
 ) -> Option<ServeEnd>
     requires { Serves B.told P.meaning.faults shared.now row.old }
@@ -169,7 +164,7 @@ fn look_for_over<
 {
     // Lets the contract speak of it.
     let _shared = shared;
-    match row.runner.look_at_tally(rt) {
+    match row.runner.look(rt) {
         TallyOut::Spent => Some(ServeEnd::Spent),
         TallyOut::Done(reply) => {
             let counts = Counts {
@@ -191,7 +186,7 @@ fn is_over(reply: TallyReply, limit: u64) -> bool
 }
 
 /// The end of the first dispatcher that makes no further turn, if there is one.
-fn first_halt<'s, P: Poller, F: Files, C, B, G>(rows: &[Row<'s, P, F, C, B, G>]) -> Option<ServeEnd>
+fn first_halt<P: Poller, F: Files, C, B, G>(rows: &[Row<P, F, C, B, G>]) -> Option<ServeEnd>
     ensures { IfSome result (λ end. Any (λ row. IsSomeAnd row.halted (λ halted. EndOf halted end)) rows.now) }
 {
     for row in rows {

@@ -8,8 +8,8 @@ use warp_books::{Book, Finished};
 use warp_jobs::{Gate, Job};
 use warp_passes::{ShareRow, Shared};
 
-impl<'s, P: Poller, F: Files, C: Clock, B: Book<Finished<P::Link, F>>, G: Gate> ShareRow
-    for Row<'s, P, F, C, B, G>
+impl<P: Poller, F: Files, C: Clock, B: Book<Finished<P::Link, F>>, G: Gate> ShareRow
+    for Row<P, F, C, B, G>
 {
     ghost use Rattle.warp_passes.specs.Cells.{meaning_by};
     ghost use Rattle.warp_core.specs.Rows.{Beside, IsRowOf, beside_of, known_by};
@@ -24,8 +24,8 @@ impl<'s, P: Poller, F: Files, C: Clock, B: Book<Finished<P::Link, F>>, G: Gate> 
 
     fn share_row(
         of: &Shared<Job<P, F>, F>,
-        from: &mut Row<'s, P, F, C, B, G>,
-        to: &mut Row<'s, P, F, C, B, G>,
+        from: &mut Row<P, F, C, B, G>,
+        to: &mut Row<P, F, C, B, G>,
     ) {
         Share::share(&of.mgr, &mut from.disp.mgr, &mut to.disp.mgr);
         Share::share(&of.cache, &mut from.runner.cached, &mut to.runner.cached);

@@ -29,7 +29,6 @@ enum Sight {
 
 /// Turns a dispatcher until all is served or one of them stops.
 pub(crate) fn serve_row<
-    's,
     P: Poller,
     F: Files,
     C: Clock,
@@ -39,7 +38,7 @@ pub(crate) fn serve_row<
 >(
     rt: &R,
     shared: &Shared<Job<P, F>, F>,
-    row: &mut Row<'s, P, F, C, B, G>,
+    row: &mut Row<P, F, C, B, G>,
 )
     requires { Serves B.told P.meaning.faults shared.now row.old }
     ensures serves { Serves B.told P.meaning.faults shared.now row.new }
@@ -54,7 +53,6 @@ pub(crate) fn serve_row<
 
 /// One round: a beat, a look at the tally, and a turn. It is false where it was the last.
 fn makes_a_round<
-    's,
     P: Poller,
     F: Files,
     C: Clock,
@@ -64,7 +62,7 @@ fn makes_a_round<
 >(
     rt: &R,
     shared: &Shared<Job<P, F>, F>,
-    row: &mut Row<'s, P, F, C, B, G>,
+    row: &mut Row<P, F, C, B, G>,
 ) -> bool
     requires { Serves B.told P.meaning.faults shared.now row.old }
     ensures serves { Serves B.told P.meaning.faults shared.now row.new }
@@ -86,7 +84,6 @@ fn makes_a_round<
 
 /// One turn. It is false where it was the last.
 fn goes_on<
-    's,
     P: Poller,
     F: Files,
     C: Clock,
@@ -96,7 +93,7 @@ fn goes_on<
 >(
     rt: &R,
     shared: &Shared<Job<P, F>, F>,
-    row: &mut Row<'s, P, F, C, B, G>,
+    row: &mut Row<P, F, C, B, G>,
 ) -> bool
     requires { Serves B.told P.meaning.faults shared.now row.old }
     ensures serves { Serves B.told P.meaning.faults shared.now row.new }
@@ -113,7 +110,6 @@ fn goes_on<
 
 /// One turn. It answers why no further one is made, if so.
 fn turn_once<
-    's,
     P: Poller,
     F: Files,
     C: Clock,
@@ -123,7 +119,7 @@ fn turn_once<
 >(
     rt: &R,
     shared: &Shared<Job<P, F>, F>,
-    row: &mut Row<'s, P, F, C, B, G>,
+    row: &mut Row<P, F, C, B, G>,
 ) -> Option<Halted>
     requires { Serves B.told P.meaning.faults shared.now row.old }
     ensures serves { Serves B.told P.meaning.faults shared.now row.new }
@@ -153,7 +149,6 @@ fn turn_once<
 
 /// The dispatcher makes no further turn. The tally keeps the code if it is the first, so that the others see it.
 pub(crate) fn halt<
-    's,
     P: Poller,
     F: Files,
     C: Clock,
@@ -163,7 +158,7 @@ pub(crate) fn halt<
 >(
     rt: &R,
     shared: &Shared<Job<P, F>, F>,
-    row: &mut Row<'s, P, F, C, B, G>,
+    row: &mut Row<P, F, C, B, G>,
     halted: Halted,
 )
     requires serves { Serves B.told P.meaning.faults shared.now row.old }
@@ -188,7 +183,6 @@ pub(crate) fn halt<
 
 /// Looks at the tally.
 fn look<
-    's,
     P: Poller,
     F: Files,
     C: Clock,
@@ -198,7 +192,7 @@ fn look<
 >(
     rt: &R,
     shared: &Shared<Job<P, F>, F>,
-    row: &mut Row<'s, P, F, C, B, G>,
+    row: &mut Row<P, F, C, B, G>,
 ) -> Sight
     requires { Serves B.told P.meaning.faults shared.now row.old }
     ensures serves { Serves B.told P.meaning.faults shared.now row.new }
@@ -206,7 +200,7 @@ fn look<
 {
     // Lets the contract speak of it.
     let _shared = shared;
-    match row.runner.look_at_tally(rt) {
+    match row.runner.look(rt) {
         TallyOut::Spent => Sight::Spent,
         TallyOut::Done(reply) => {
             let all = reply.accepted >= row.runner.limit
