@@ -2,5 +2,6 @@ pub mod Apart
 pub mod Halting
 pub mod Levelled
 pub mod Looked
+pub mod Made
 pub mod RowLists
 pub mod Serving

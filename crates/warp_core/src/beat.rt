@@ -74,7 +74,11 @@ pub(crate) fn beat<
         return None;
     };
     let now = row.runner.clock.now();
-    let stopped = if beats.is_due(now) { clean(rt, shared, row, &mut beats) } else { None };
+    if !beats.is_due(now) {
+        row.beats = Some(beats);
+        return None;
+    }
+    let stopped = clean(rt, shared, row, &mut beats);
     row.beats = Some(beats);
     stopped
 }

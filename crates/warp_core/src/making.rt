@@ -45,7 +45,11 @@ pub(crate) fn rows_of<
     // A law of new passes, for the proof: it does nothing when run.
     new_passes_did_nothing::<Lease<F>>();
     let mut rows = Vec::with_capacity(alloc, passes.len())?;
-    for (pass, kit) in passes.into_iter().zip(kits) {
+    let mut own = passes.into_iter();
+    for kit in kits {
+        let Some(pass) = own.next() else {
+            unreachable!()
+        };
         let beats = beats_of(alloc, seconds, rows.is_empty())?;
         rows.push_reserved(row_of(alloc, shared.clone()?, pass, kit, limit, beats)?);
     }
