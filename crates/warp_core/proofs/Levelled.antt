@@ -1,5 +1,5 @@
 -- Dispatchers serve on where their passes were brought level.
-use Rattle.std.proofs.Common.{◌≡◌, ℕ, List, [], ◌∷◌, map, length, All, refl, sym, ap, ◌∙◌, subst, arith}
+use Rattle.std.proofs.Common.{◌≡◌, ℕ, List, [], ◌∷◌, map, length, get_or, All, refl, sym, ap, ◌∙◌, subst, arith}
 use Rattle.std.proofs.lemmas.List.Elements.{All-cons, All-nil}
 use Rattle.std.specs.Prelude.{Option, Some, None}
 use Rattle.outside.specs.declared.files.Files.{Ghosts}
@@ -11,7 +11,7 @@ use Rattle.timeout_mgr.specs.declared.view.TimeView.{TimeView}
 use Rattle.timeout_mgr.specs.Passes.{calls_of}
 use Rattle.event_mgr.specs.Manager.{own_weight, number_weight}
 use Rattle.event_mgr.specs.declared.numbers.NumbersEntry.{NumbersEntry}
-use Rattle.level.proofs.Lists.{All-head, All-tail}
+use Rattle.level.proofs.Lists.{All-head, All-tail, map_map}
 use Rattle.poller.specs.Faults.{PollerFaults}
 use Rattle.dispatcher.specs.Stripes.{Each}
 use Rattle.dispatcher.specs.Firings.{Jobs}
@@ -20,14 +20,14 @@ use Rattle.warp_books.specs.Books.{BookTold, FinishedTold, IsBookOf}
 use Rattle.warp_jobs.specs.declared.job.Job.{Job}
 use Rattle.warp_passes.specs.declared.shared.Shared.{Shared}
 use Rattle.warp_passes.specs.Own.{entries_of}
-use Rattle.warp_passes.specs.Passes.{PassRest}
+use Rattle.warp_passes.specs.Passes.{IsLawfulPass, PassRest, lawful_of}
 use Rattle.warp_passes.specs.Levels.{OwnsTheSame}
 use Rattle.warp_runner.specs.Acts.{ServeTold, fired_weight, is_all_out}
 use Rattle.warp_runner.specs.Journal.{Deed, Fits, all_of}
 use Rattle.warp_core.specs.declared.row.Row.{Row}
 use Rattle.warp_core.specs.declared.row.Halted.{Halted}
 use Rattle.warp_core.specs.declared.row.Halted.TheVariants as Halts
-use Rattle.warp_core.specs.Rows.{Beside, IsRowOf, HaltsBy, Serves, beside_of, known_by, told_by}
+use Rattle.warp_core.specs.Rows.{Beside, IsRowOf, HaltsBy, Serves, beside_of, known_by, passes_of, told_by}
 use Rattle.warp_core.specs.Stops.{stops}
 use Rattle.warp_core.proofs.RowLists.{head_or, tail_of}
 
@@ -88,3 +88,15 @@ module _ {P F C B G L I X : Type 0} {H : Ghosts F X} (told : B → BookTold) (fa
   levelled (x ∷ xs) (y ∷ ys) all own owns same = All-cons (λ z. Serves told faults s z) y ys
       (levelled_one x y (All-head (λ z. Serves told faults s z) x xs all) (All-head (λ z. IsRowOf s z) y ys own) owns.0 (ap (head_or (beside_of told faults x)) same))
       (levelled xs ys (All-tail (λ z. Serves told faults s z) x xs all) (All-tail (λ z. IsRowOf s z) y ys own) owns.1 (ap tail_of same))
+
+  pub limits_same : (xs ys : List (Row P F C B G L I X H)) → map (beside_of told faults) ys ≡ map (beside_of told faults) xs
+      → map (λ row. row.runner.limit) ys ≡ map (λ row. row.runner.limit) xs
+  limits_same xs ys same = map_map (λ (z : Beside). z.limit) (beside_of told faults) ys
+      ∙ (ap (map (λ (z : Beside). z.limit)) same ∙ sym (map_map (λ (z : Beside). z.limit) (beside_of told faults) xs))
+
+  pub rows_own : (xs : List (Row P F C B G L I X H)) → All (λ x. Serves told faults s x) xs → All (λ x. IsRowOf s x) xs
+  rows_own xs all k d lt = (all k d lt).own
+
+module _ {P F C B G L I X : Type 0} {H : Ghosts F X} (s : Shared (Job P F L I X) F X H) where
+  pub rows_lawful : (xs : List (Row P F C B G L I X H)) → All (λ x. IsRowOf s x) xs → All (λ x. IsLawfulPass (known_by x)) xs
+  rows_lawful xs own k d lt = lawful_of s (passes_of (get_or xs k d)) (own k d lt).passes

@@ -1,7 +1,7 @@
 use Rattle.std.proofs.Common.{[], refl, arith}
 use Rattle.turn_cell.specs.Calls.{view_of}
 use Rattle.event_mgr.specs.Manager.{mgr_view}
-use Rattle.warp_core.proofs.Serving.{goes_by, made_grown, serves_on}
+use Rattle.warp_core.proofs.Serving.{cells_of, goes_by, made_grown, serves_on}
 use Rattle.warp_core.proofs.beat.sweep.Goals as goal
 
 pub returns-clause-serves : goal.returns-clause-serves
@@ -19,3 +19,9 @@ returns-clause-goes_on g c =
     let e = c.sweep.ensures in
     let y = record x { disp = record x.disp { mgr = c.sweep.new.pass }; runner = c.sweep.new.self } in
     goes_by x y (made_grown (mgr_view x.disp.mgr) [] (mgr_view c.sweep.new.pass) e.made) e.stays.0 e.same.1
+
+pub sweep-requires-clause-mgr : goal.sweep-requires-clause-mgr
+sweep-requires-clause-mgr g c = c.requires.own.passes.disp.0
+
+pub sweep-requires-clause-own : goal.sweep-requires-clause-own
+sweep-requires-clause-own g c = cells_of c.args.shared.now c.args.row.now c.requires.own

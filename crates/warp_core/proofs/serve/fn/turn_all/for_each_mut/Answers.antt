@@ -1,0 +1,4 @@
+use Rattle.warp_core.proofs.serve.fn.turn_all.for_each_mut.Goals as goal
+
+pub serve_row-requires : goal.serve_row-requires
+serve_row-requires g c = c.requires
