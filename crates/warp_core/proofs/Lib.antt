@@ -4,4 +4,5 @@ pub mod Levelled
 pub mod Looked
 pub mod Made
 pub mod RowLists
+pub mod Seen
 pub mod Serving

@@ -51,15 +51,15 @@ module _ {A L : Type 0} (known : A → PassView L) where
   last_log : (x y : A) (xs zs : List A) (limit : ℕ) (counts : Counts) → ArePassesLevel known (x ∷ xs) → HasSeenOver limit counts (known x).tally (known y).tally
       → CameLevel known (y ∷ xs) zs → OwnIsKept known (y ∷ xs) zs → (z : A) × (ws : List A) × (zs ≡ z ∷ ws) × (tally_seen z ≡ tally_seen y)
   last_log x y xs [] limit counts level saw came keeps =
-      let g = (keeps AtTally).grows 0 (tally_seen y) refl in absurd (none-some g.0 g.1.0)
+      let g = (keeps AtTally).grows 0 (tally_seen y) refl in absurd (none-some g.0 g.1)
   last_log x y xs (z ∷ ws) limit counts level saw came keeps =
       let before = level.tally.log in
       let brought = came AtTally in
       let log = brought.level.log in
       let first : tally_seen z ≡ log = All-head (λ (v : View TallyEntry). v.seen ≡ log) (known z).tally (map (λ w. (known w).tally) ws) brought.level.saw in
       let g = (keeps AtTally).grows 0 (tally_seen y) refl in
-      let there : g.0 ≡ log = sym (same_Some (tally_seen z) g.0 g.1.0) ∙ first in
-      let begins : IsPrefix (tally_seen y) log = subst (λ (l : Log TallyEntry). IsPrefix (tally_seen y) l) there g.1.1 in
+      let there : g.0 ≡ log = sym (same_Some (tally_seen z) g.0 g.1) ∙ first in
+      let begins : IsPrefix (tally_seen y) log = subst (λ (l : Log TallyEntry). IsPrefix (tally_seen y) l) there g.2 in
       let had : tally_seen x ≡ before = All-head (λ (v : View TallyEntry). v.seen ≡ before) (known x).tally (map (λ w. (known w).tally) xs) level.tally.saw in
       let one = past_length (tally_seen y) in
       let two = past_length (tally_seen x) in

@@ -1,5 +1,5 @@
 -- Dispatchers that are made of new passes and empty books serve.
-use Rattle.std.proofs.Common.{◌≡◌, ℕ, List, [], ◌∷◌, map, length, get_or, All, sym, subst}
+use Rattle.std.proofs.Common.{◌≡◌, ℕ, List, [], ◌∷◌, map, length, get_or, All, sym, subst, arith}
 use Rattle.std.specs.Prelude.{Option}
 use Rattle.outside.specs.declared.files.Files.{Ghosts}
 use Rattle.turn_cell.specs.Calls.{view_of}
@@ -12,13 +12,22 @@ use Rattle.warp_passes.specs.declared.shared.Shared.{Shared}
 use Rattle.warp_passes.specs.declared.shared.ServePass.{ServePass}
 use Rattle.warp_passes.specs.Passes.{PassView, AreOf, IsLawfulPass, lawful_of, pass_view}
 use Rattle.warp_passes.specs.Levels.{AreNewPasses, DidNothing, IsNew}
-use Rattle.warp_passes.proofs.RowsOfPasses.{each_row}
+use Rattle.std.proofs.lemmas.List.Elements.{All-cons}
+use Rattle.level.proofs.Lists.{All-head, All-tail}
 use Rattle.warp_core.specs.declared.row.Row.{Row}
 use Rattle.warp_core.specs.declared.row.Halted.{Halted}
 use Rattle.warp_core.specs.Making.{IsPlain}
 use Rattle.warp_core.specs.Rows.{HaltsBy, Serves, known_by, passes_of, told_by}
 use Rattle.warp_core.proofs.Apart.{all_parts}
 use Rattle.warp_core.proofs.Levelled.{fits_first}
+
+-- what holds of each part holds of what it is a part of
+of_map : {A B : Type 0} (f : A → B) (P : B → Type 0) (xs : List A) → All P (map f xs) → All (λ x. P (f x)) xs
+of_map f P [] all = λ k d h. absurd (omega arith)
+of_map f P (x ∷ xs) all = All-cons (λ y. P (f y)) x xs (All-head P (f x) (map f xs) all) (of_map f P xs (All-tail P (f x) (map f xs) all))
+
+each_row : {A B : Type 0} (f : A → B) (P : B → Type 0) (xs : List A) (ys : List B) → map f xs ≡ ys → All P ys → All (λ x. P (f x)) xs
+each_row f P xs ys same all = of_map f P xs (subst (All P) (sym same) all)
 
 module _ {P F C B G L I X : Type 0} {H : Ghosts F X} (told : B → BookTold) (faults : P → PollerFaults) (s : Shared (Job P F L I X) F X H) (limit : ℕ) where
   pub new_serve : (rows : List (Row P F C B G L I X H)) (passes : List (ServePass (Job P F L I X) F X H)) (kits : List (Kit P F C B G))

@@ -186,8 +186,7 @@ where
         THREADS,
         &|_i: usize, row: &mut Row<P, F, C, B, G>| -> ()
             requires { Serves B.told P.meaning.faults shared.now row.old }
-            ensures serves { Serves B.told P.meaning.faults shared.entry.now row.new }
-            ensures goes_on { HasGoneOn row.old row.new }
+            ensures { Serves B.told P.meaning.faults shared.entry.now row.new × HasGoneOn row.old row.new }
         { serve_row(rt, shared, row) },
     );
 }

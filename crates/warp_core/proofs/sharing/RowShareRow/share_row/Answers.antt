@@ -2,7 +2,7 @@ use Rattle.std.proofs.Common.{refl}
 use Rattle.fd_cache.specs.History.{IsCacheHistory}
 use Rattle.fd_cache.specs.Represents.{past_of}
 use Rattle.warp_tally.specs.Tallies.{tally_past, IsTallyPast}
-use Rattle.warp_passes.proofs.Seen.{shared_from, shared_to, passes_shared}
+use Rattle.warp_core.proofs.Seen.{shared_from, shared_to, passes_shared}
 use Rattle.warp_core.proofs.sharing.RowShareRow.share_row.Goals as goal
 
 pub share-requires-clause-from : goal.share-requires-clause-from
