@@ -1,0 +1,50 @@
+use Rattle.std.proofs.Common.{refl}
+use Rattle.dispatcher.proofs.Grown.{all_grown_same, grown_same}
+use Rattle.turn_cell.specs.Calls.{view_of}
+use Rattle.event_mgr.specs.Manager.{mgr_view}
+use Rattle.warp_core.proofs.Serving.{goes_by, goes_same}
+use Rattle.warp_core.proofs.beat.reap.Goals as goal
+
+pub returns-in_err-basket-clause-goes_on : goal.returns-in_err-basket-clause-goes_on
+returns-in_err-basket-clause-goes_on g c = goes_same c.args.row.now
+
+pub returns-in-Reaped-clause-goes_on : goal.returns-in-Reaped-clause-goes_on
+returns-in-Reaped-clause-goes_on g c =
+    let x = c.args.row.now in
+    let y = record x { runner = record x.runner { cached = c.reap_once-out.new.pass } } in
+    goes_by x y (all_grown_same (mgr_view x.disp.mgr)) (record { cached = c.reap_once-out.ensures.cached.adds.grown; tallied = grown_same (view_of x.runner.tallied) }) refl
+
+pub returns-in-Spent-clause-goes_on : goal.returns-in-Spent-clause-goes_on
+returns-in-Spent-clause-goes_on g c =
+    let x = c.args.row.now in
+    let y = record x { runner = record x.runner { cached = c.reap_once-out.new.pass } } in
+    goes_by x y (all_grown_same (mgr_view x.disp.mgr)) (record { cached = c.reap_once-out.ensures.cached.adds.grown; tallied = grown_same (view_of x.runner.tallied) }) refl
+
+pub returns-in_err-basket-clause-serves : goal.returns-in_err-basket-clause-serves
+returns-in_err-basket-clause-serves g c = c.requires
+
+pub reap_once-out-requires-clause-own : goal.reap_once-out-requires-clause-own
+reap_once-out-requires-clause-own g c = c.requires.own.passes.cache
+
+pub reap_once-out-requires-clause-basket : goal.reap_once-out-requires-clause-basket
+reap_once-out-requires-clause-basket g c = c.clear.ensures
+
+pub returns-in-Reaped-clause-serves : goal.returns-in-Reaped-clause-serves
+returns-in-Reaped-clause-serves g c =
+    let own = c.requires.own in
+    let passes = own.passes in
+    record {
+      own = record { passes = record { disp = passes.disp; times = passes.times; cache = c.reap_once-out.ensures.own; tally = passes.tally }; shared = own.shared };
+      fits = c.requires.fits;
+      halts = c.requires.halts;
+    }
+
+pub returns-in-Spent-clause-serves : goal.returns-in-Spent-clause-serves
+returns-in-Spent-clause-serves g c =
+    let own = c.requires.own in
+    let passes = own.passes in
+    record {
+      own = record { passes = record { disp = passes.disp; times = passes.times; cache = c.reap_once-out.ensures.own; tally = passes.tally }; shared = own.shared };
+      fits = c.requires.fits;
+      halts = c.requires.halts;
+    }

@@ -1,0 +1,13 @@
+use Rattle.std.proofs.Common.{◌≡◌, ◌+◌, ◌≤◌, ◌++◌, length, map, vec_capacity}
+use Rattle.std.specs.Vec.Iter.{into_iter_items, into_iter_len}
+use Rattle.warp_core.specs.Rows.{passes_of}
+use Rattle.warp_core.proofs.making.Parts.fill.Given as goal
+
+abbrev pub invariant-loop-row : goal.invariant-loop-row
+invariant-loop-row g l = record {
+  room : length l.parts.passes.items + into_iter_len l.row-iterator ≤ vec_capacity l.parts.passes;
+  space : length l.parts.kits.items + into_iter_len l.row-iterator ≤ vec_capacity l.parts.kits;
+  passes : l.parts.passes.items ++ map passes_of (into_iter_items l.row-iterator) ≡ map passes_of l.fn.rows.items;
+  books : map (λ kit. kit.book) l.parts.kits.items ++ map (λ row. row.runner.book) (into_iter_items l.row-iterator) ≡ map (λ row. row.runner.book) l.fn.rows.items;
+  pollers : map (λ kit. kit.poller) l.parts.kits.items ++ map (λ row. row.runner.poller) (into_iter_items l.row-iterator) ≡ map (λ row. row.runner.poller) l.fn.rows.items;
+}

@@ -1,0 +1,17 @@
+use Rattle.std.proofs.Common.{◌≡◌, ◌+◌, ◌++◌, length, map, vec_capacity}
+use Rattle.std.specs.Prelude.{All}
+use Rattle.std.specs.Arc.{arc_value}
+use Rattle.std.specs.Vec.Iter.{into_iter_items, into_iter_len}
+use Rattle.warp_core.specs.Making.{IsPlain}
+use Rattle.warp_core.specs.Rows.{passes_of}
+use Rattle.warp_core.proofs.making.rows_of.Given as goal
+
+abbrev pub invariant-loop-kit : goal.invariant-loop-kit
+invariant-loop-kit g l = record {
+  room : vec_capacity l.rows ≡ length l.fn.passes.items;
+  left : into_iter_len l.own ≡ into_iter_len l.kit-iterator;
+  count : into_iter_len l.own + length l.rows.items ≡ length l.fn.passes.items;
+  passes : map passes_of l.rows.items ++ into_iter_items l.own ≡ l.fn.passes.items;
+  books : map (λ row. row.runner.book) l.rows.items ++ map (λ kit. kit.book) (into_iter_items l.kit-iterator) ≡ map (λ kit. kit.book) l.fn.kits.items;
+  plain : All (IsPlain (arc_value l.shared) l.limit) l.rows.items;
+}

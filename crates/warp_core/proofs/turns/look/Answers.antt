@@ -1,0 +1,56 @@
+use Rattle.std.proofs.Common.{[], refl, arith}
+use Rattle.event_mgr.specs.Manager.{mgr_view}
+use Rattle.dispatcher.proofs.Grown.{all_grown_same}
+use Rattle.warp_core.proofs.Serving.{cells_of, goes_by, serves_on}
+use Rattle.warp_core.proofs.turns.look.Goals as goal
+
+pub look-requires : goal.look-requires
+look-requires g c = record { own = cells_of c.args.shared.now c.args.row.now c.requires.own }
+
+pub returns-in-Spent-clause-serves : goal.returns-in-Spent-clause-serves
+returns-in-Spent-clause-serves g c =
+    let x = c.args.row.now in
+    let e = c.look.ensures in
+    let y = record x { runner = c.look.new.self } in
+    let polls = e.stays.1.same_faults in
+    serves_on g.B.Book.told g.P.Poller.meaning.faults c.args.shared.now x y c.requires c.requires.own.passes.disp e.own e.same.0
+        (e.fits (mgr_view x.disp.mgr) [] c.requires.fits) (omega arith) e.stays.0.tallied refl
+
+pub returns-in-Spent-clause-goes_on : goal.returns-in-Spent-clause-goes_on
+returns-in-Spent-clause-goes_on g c =
+    let x = c.args.row.now in
+    let e = c.look.ensures in
+    let y = record x { runner = c.look.new.self } in
+    goes_by x y (all_grown_same (mgr_view x.disp.mgr)) e.stays.0 e.same.1
+
+pub returns-then-all-clause-serves : goal.returns-then-all-clause-serves
+returns-then-all-clause-serves g c =
+    let x = c.args.row.now in
+    let e = c.look.ensures in
+    let y = record x { runner = c.look.new.self } in
+    let polls = e.stays.1.same_faults in
+    serves_on g.B.Book.told g.P.Poller.meaning.faults c.args.shared.now x y c.requires c.requires.own.passes.disp e.own e.same.0
+        (e.fits (mgr_view x.disp.mgr) [] c.requires.fits) (omega arith) e.stays.0.tallied refl
+
+pub returns-then-all-clause-goes_on : goal.returns-then-all-clause-goes_on
+returns-then-all-clause-goes_on g c =
+    let x = c.args.row.now in
+    let e = c.look.ensures in
+    let y = record x { runner = c.look.new.self } in
+    goes_by x y (all_grown_same (mgr_view x.disp.mgr)) e.stays.0 e.same.1
+
+pub returns-else-all-clause-serves : goal.returns-else-all-clause-serves
+returns-else-all-clause-serves g c =
+    let x = c.args.row.now in
+    let e = c.look.ensures in
+    let y = record x { runner = c.look.new.self } in
+    let polls = e.stays.1.same_faults in
+    serves_on g.B.Book.told g.P.Poller.meaning.faults c.args.shared.now x y c.requires c.requires.own.passes.disp e.own e.same.0
+        (e.fits (mgr_view x.disp.mgr) [] c.requires.fits) (omega arith) e.stays.0.tallied refl
+
+pub returns-else-all-clause-goes_on : goal.returns-else-all-clause-goes_on
+returns-else-all-clause-goes_on g c =
+    let x = c.args.row.now in
+    let e = c.look.ensures in
+    let y = record x { runner = c.look.new.self } in
+    goes_by x y (all_grown_same (mgr_view x.disp.mgr)) e.stays.0 e.same.1

@@ -1,0 +1,91 @@
+use Rattle.std.proofs.Common.{[], refl, arith}
+use Rattle.std.specs.Prelude.{None}
+use Rattle.std.proofs.lemmas.Option.{none-some}
+use Rattle.warp_core.proofs.Serving.{cells_of, goes_by, serves_with}
+use Rattle.warp_core.proofs.turns.turn_once.Goals as goal
+
+pub turn-turned-requires-clause-ready : goal.turn-turned-requires-clause-ready
+turn-turned-requires-clause-ready g c = record {
+  own = c.requires.own.passes.disp;
+  stop = refl;
+  fits = (cells_of c.args.shared.now c.args.row.now c.requires.own, c.requires.fits);
+}
+
+pub turn-turned-requires-clause-empty : goal.turn-turned-requires-clause-empty
+turn-turned-requires-clause-empty g c = c.clear.ensures
+
+pub returns-in-Done-clause-serves : goal.returns-in-Done-clause-serves
+returns-in-Done-clause-serves g c =
+    let x = c.args.row.now in
+    let e = c.turn-turned.ensures in
+    let work = c.in-Done.ensures.turned.work in
+    let y = record x { disp = c.turn-turned.new.passes; runner = c.turn-turned.new.runner; reports = c.turn-turned.new.reports; halted = None } in
+    serves_with g.B.Book.told g.P.Poller.meaning.faults c.args.shared.now x y c.requires e.own e.fits.0 work.kept.0 e.fits.1 tt
+
+pub returns-in-Done-clause-goes_on : goal.returns-in-Done-clause-goes_on
+returns-in-Done-clause-goes_on g c =
+    let x = c.args.row.now in
+    let e = c.turn-turned.ensures in
+    let work = c.in-Done.ensures.turned.work in
+    let y = record x { disp = c.turn-turned.new.passes; runner = c.turn-turned.new.runner; reports = c.turn-turned.new.reports; halted = None } in
+    goes_by x y work.grown work.kept.2 work.kept.1
+
+pub returns-in-Done-clause-faulted : goal.returns-in-Done-clause-faulted
+returns-in-Done-clause-faulted g c = λ is. absurd (none-some _ is)
+
+pub returns-in-PollFault-clause-serves : goal.returns-in-PollFault-clause-serves
+returns-in-PollFault-clause-serves g c =
+    let x = c.args.row.now in
+    let e = c.turn-turned.ensures in
+    let work = c.in-PollFault.ensures.turned.work in
+    let y = record x { disp = c.turn-turned.new.passes; runner = c.turn-turned.new.runner; reports = c.turn-turned.new.reports; halted = None } in
+    serves_with g.B.Book.told g.P.Poller.meaning.faults c.args.shared.now x y c.requires e.own e.fits.0 work.kept.0 e.fits.1 tt
+
+pub returns-in-PollFault-clause-goes_on : goal.returns-in-PollFault-clause-goes_on
+returns-in-PollFault-clause-goes_on g c =
+    let x = c.args.row.now in
+    let e = c.turn-turned.ensures in
+    let work = c.in-PollFault.ensures.turned.work in
+    let y = record x { disp = c.turn-turned.new.passes; runner = c.turn-turned.new.runner; reports = c.turn-turned.new.reports; halted = None } in
+    goes_by x y work.grown work.kept.2 work.kept.1
+
+pub returns-in-PollFault-clause-faulted : goal.returns-in-PollFault-clause-faulted
+returns-in-PollFault-clause-faulted g c = λ is. (let rose = c.in-PollFault.ensures.turned.rose in omega arith)
+
+pub returns-in-Stop-clause-serves : goal.returns-in-Stop-clause-serves
+returns-in-Stop-clause-serves g c =
+    let x = c.args.row.now in
+    let e = c.turn-turned.ensures in
+    let work = c.in-Stop.ensures.turned.work in
+    let y = record x { disp = c.turn-turned.new.passes; runner = c.turn-turned.new.runner; reports = c.turn-turned.new.reports; halted = None } in
+    serves_with g.B.Book.told g.P.Poller.meaning.faults c.args.shared.now x y c.requires e.own e.fits.0 work.kept.0 e.fits.1 tt
+
+pub returns-in-Stop-clause-goes_on : goal.returns-in-Stop-clause-goes_on
+returns-in-Stop-clause-goes_on g c =
+    let x = c.args.row.now in
+    let e = c.turn-turned.ensures in
+    let work = c.in-Stop.ensures.turned.work in
+    let y = record x { disp = c.turn-turned.new.passes; runner = c.turn-turned.new.runner; reports = c.turn-turned.new.reports; halted = None } in
+    goes_by x y work.grown work.kept.2 work.kept.1
+
+pub returns-in-Stop-clause-faulted : goal.returns-in-Stop-clause-faulted
+returns-in-Stop-clause-faulted g c = λ is. absurd (cc)
+
+pub returns-in-Spent-clause-serves : goal.returns-in-Spent-clause-serves
+returns-in-Spent-clause-serves g c =
+    let x = c.args.row.now in
+    let e = c.turn-turned.ensures in
+    let work = c.in-Spent.ensures.turned.0.work in
+    let y = record x { disp = c.turn-turned.new.passes; runner = c.turn-turned.new.runner; reports = c.turn-turned.new.reports; halted = None } in
+    serves_with g.B.Book.told g.P.Poller.meaning.faults c.args.shared.now x y c.requires e.own e.fits.0 work.kept.0 e.fits.1 tt
+
+pub returns-in-Spent-clause-goes_on : goal.returns-in-Spent-clause-goes_on
+returns-in-Spent-clause-goes_on g c =
+    let x = c.args.row.now in
+    let e = c.turn-turned.ensures in
+    let work = c.in-Spent.ensures.turned.0.work in
+    let y = record x { disp = c.turn-turned.new.passes; runner = c.turn-turned.new.runner; reports = c.turn-turned.new.reports; halted = None } in
+    goes_by x y work.grown work.kept.2 work.kept.1
+
+pub returns-in-Spent-clause-faulted : goal.returns-in-Spent-clause-faulted
+returns-in-Spent-clause-faulted g c = λ is. absurd (cc)

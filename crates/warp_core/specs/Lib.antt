@@ -1,0 +1,6 @@
+pub mod Ends
+pub mod Journals
+pub mod Making
+pub mod Rows
+pub mod Settling
+pub mod Stops
