@@ -75,6 +75,19 @@ fn carried_out<L: Link, F: Files, C: Clock>(
     let Ok(Command::Connection { root }) = command_of(words) else {
         return Status::Usage;
     };
+    connection(alloc, root, link, files, clock)
+}
+
+/// Asks for the root, and serves.
+pub(crate) fn connection<L: Link, F: Files, C: Clock>(
+    alloc: Global,
+    root: &str,
+    link: &mut L,
+    files: &mut F,
+    clock: &mut C,
+) -> Status
+    requires { IsFresh (L.told link.old) }
+{
     match files.root(root) {
         RootOut::Present => served(alloc, link, files, clock),
         RootOut::Absent => Status::NoSuchFolder,

@@ -6,10 +6,15 @@
 
 mod command;
 mod connection;
+mod load_kits;
+mod run;
 mod status;
+mod summary;
 
 pub use command::{Command, Usage, command_of};
 pub use connection::run_connection;
+pub use load_kits::Driven;
+pub use run::{Host, run};
 pub use status::{Status, refuse};
 
 #[cfg(test)]
