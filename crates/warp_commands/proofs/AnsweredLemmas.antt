@@ -19,7 +19,7 @@ use Rattle.conn_loop.specs.declared.step.Step.{Step}
 use Rattle.conn_loop.specs.declared.step.Step.TheVariants.{WantRead, WantWrite, WantFile, Done}
 use Rattle.conn_loop.specs.declared.step.End.TheVariants as End
 use Rattle.warp_commands.specs.declared.status.Status.{Status}
-use Rattle.warp_commands.specs.declared.status.Status.TheVariants.{Clean, Cut, Usage, ReadFault, WriteFault, FileFault, NoMemory, NoSuchFolder, NotReady}
+use Rattle.warp_commands.specs.declared.status.Status.TheVariants.{Clean, Cut, Usage, ReadFault, WriteFault, FileFault, NoMemory, NoSuchFolder, PollFault, AcceptFault, Spent, OutFault, NotReady, TurnedAway}
 use Rattle.warp_commands.specs.Served.{IsAnswered, IsAnsweredFor, HoldsAt, IsUnused}
 use Rattle.warp_commands.specs.Steps.{status_after}
 
@@ -87,6 +87,11 @@ IsUnbegun FileFault = Unit {0}
 IsUnbegun NoMemory = Unit {0}
 IsUnbegun NoSuchFolder = Unit {0}
 IsUnbegun NotReady = ⊥
+IsUnbegun PollFault = ⊥
+IsUnbegun AcceptFault = ⊥
+IsUnbegun Spent = ⊥
+IsUnbegun OutFault = ⊥
+IsUnbegun TurnedAway = ⊥
 
 unbegun_holds : (status : Status) (counts : Counts) (reply : Replying) (moments taken sent : List ℕ) (ended : Option Bool)
     → IsUnbegun status → IsUnused taken sent → HoldsAt status counts counts reply moments taken sent ended
@@ -99,6 +104,11 @@ unbegun_holds FileFault counts reply moments taken sent ended is x = inr x
 unbegun_holds NoMemory counts reply moments taken sent ended is x = inr x
 unbegun_holds NoSuchFolder counts reply moments taken sent ended is x = x
 unbegun_holds NotReady counts reply moments taken sent ended is x = absurd is
+unbegun_holds PollFault counts reply moments taken sent ended is x = absurd is
+unbegun_holds AcceptFault counts reply moments taken sent ended is x = absurd is
+unbegun_holds Spent counts reply moments taken sent ended is x = absurd is
+unbegun_holds OutFault counts reply moments taken sent ended is x = absurd is
+unbegun_holds TurnedAway counts reply moments taken sent ended is x = absurd is
 
 unbegun_neither : (status : Status) → IsUnbegun status → (status ≢ Clean) × (status ≢ Cut)
 unbegun_neither Clean is = absurd is
@@ -110,6 +120,11 @@ unbegun_neither FileFault is = (λ e. cc, λ e. cc)
 unbegun_neither NoMemory is = (λ e. cc, λ e. cc)
 unbegun_neither NoSuchFolder is = (λ e. cc, λ e. cc)
 unbegun_neither NotReady is = absurd is
+unbegun_neither PollFault is = absurd is
+unbegun_neither AcceptFault is = absurd is
+unbegun_neither Spent is = absurd is
+unbegun_neither OutFault is = absurd is
+unbegun_neither TurnedAway is = absurd is
 
 -- a link that was not used leaves nothing to answer
 untouched_told : IsOpen [] → (status : Status) (counts : Counts) (clock : ClockTold) (ended : Option Bool) (reply : Replying) (taken sent : List ℕ)

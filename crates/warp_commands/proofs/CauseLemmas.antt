@@ -31,6 +31,7 @@ stays_after step link later files since old new clock after x gave = record {
 pub caused_after : (step : Step) (link later : LinkTold) (files since : FilesTold) → step ≢ WantFile → Brings step link later files since
     → IsServeCause (status_after step) link later files since
 caused_after WantRead link later files since stops x = record {
+  own = tt;
   was_read = λ e. cc;
   was_there = λ e. cc;
   read_fault = λ e. cc;
@@ -40,6 +41,7 @@ caused_after WantRead link later files since stops x = record {
   waits_told = λ other. absurd (other refl);
 }
 caused_after WantWrite link later files since stops x = record {
+  own = tt;
   was_read = λ e. cc;
   was_there = λ e. cc;
   read_fault = λ e. cc;
@@ -50,6 +52,7 @@ caused_after WantWrite link later files since stops x = record {
 }
 caused_after WantFile link later files since stops x = absurd (stops refl)
 caused_after (Done End.Clean) link later files since stops x = record {
+  own = tt;
   was_read = λ e. cc;
   was_there = λ e. cc;
   read_fault = λ e. cc;
@@ -59,6 +62,7 @@ caused_after (Done End.Clean) link later files since stops x = record {
   waits_told = λ other. x.waits;
 }
 caused_after (Done End.Cut) link later files since stops x = record {
+  own = tt;
   was_read = λ e. cc;
   was_there = λ e. cc;
   read_fault = λ e. cc;
@@ -68,6 +72,7 @@ caused_after (Done End.Cut) link later files since stops x = record {
   waits_told = λ other. x.waits;
 }
 caused_after (Done End.ReadFault) link later files since stops x = record {
+  own = tt;
   was_read = λ e. cc;
   was_there = λ e. cc;
   read_fault = λ e. x.fault;
@@ -77,6 +82,7 @@ caused_after (Done End.ReadFault) link later files since stops x = record {
   waits_told = λ other. x.waits;
 }
 caused_after (Done End.WriteFault) link later files since stops x = record {
+  own = tt;
   was_read = λ e. cc;
   was_there = λ e. cc;
   read_fault = λ e. cc;
@@ -86,6 +92,7 @@ caused_after (Done End.WriteFault) link later files since stops x = record {
   waits_told = λ other. x.waits;
 }
 caused_after (Done End.FileFault) link later files since stops x = record {
+  own = tt;
   was_read = λ e. cc;
   was_there = λ e. cc;
   read_fault = λ e. cc;
@@ -95,6 +102,7 @@ caused_after (Done End.FileFault) link later files since stops x = record {
   waits_told = λ other. x.waits;
 }
 caused_after (Done End.NoMemory) link later files since stops x = record {
+  own = tt;
   was_read = λ e. cc;
   was_there = λ e. cc;
   read_fault = λ e. cc;

@@ -1,3 +1,6 @@
 mod AnsweredLemmas
 mod BroughtLemmas
 mod CauseLemmas
+mod DrivenLemmas
+mod PrintLemmas
+mod WordLemmas

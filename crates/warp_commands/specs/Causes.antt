@@ -1,5 +1,5 @@
 -- To be believed: why each status comes, and what a command leaves as it was.
-use Rattle.std.specs.Prelude.{◌≡◌, ◌≢◌, ◌⊎◌, ◌↔◌, ℕ, ◌≤◌, List, [], ◌∷◌, ◌++◌, Option, Some, IsSomeAnd, option_map}
+use Rattle.std.specs.Prelude.{◌≡◌, ◌≢◌, ◌⊎◌, ◌↔◌, ℕ, ◌≤◌, List, [], ◌∷◌, ◌++◌, Option, Some, None, IsSomeAnd, option_map}
 use Rattle.outside.specs.Causes.{KeepsLink, LinkTold}
 use Rattle.outside.specs.Counts.{Counts, Rises, more_by_one}
 use Rattle.outside.specs.FileCauses.{FilesTold}
@@ -7,8 +7,8 @@ use Rattle.outside.specs.Moments.{ClockTold}
 use Rattle.outside.specs.declared.files.RootOut.TheVariants.{Present, Absent}
 use Rattle.app_trait.specs.Below.{LiesBelow}
 use Rattle.warp_commands.specs.declared.status.Status.{Status}
-use Rattle.warp_commands.specs.declared.status.Status.TheVariants.{Clean, Cut, Usage, ReadFault, WriteFault, FileFault, NoMemory, NoSuchFolder, NotReady}
-use Rattle.warp_commands.specs.Words.{Reading, no_command, connection}
+use Rattle.warp_commands.specs.declared.status.Status.TheVariants.{Clean, Cut, Usage, ReadFault, WriteFault, FileFault, NoMemory, NoSuchFolder, PollFault, AcceptFault, Spent, OutFault, NotReady, TurnedAway}
+use Rattle.warp_commands.specs.Words.{Reading, connection, root_in}
 
 -- one wait was counted, of a read
 abbrev pub WaitsToRead : (before after : Counts) → Type 0
@@ -32,7 +32,29 @@ WasServed WriteFault = Unit {0}
 WasServed FileFault = ⊥
 WasServed NoMemory = ⊥
 WasServed NoSuchFolder = ⊥
+WasServed PollFault = ⊥
+WasServed AcceptFault = ⊥
+WasServed Spent = ⊥
+WasServed OutFault = ⊥
 WasServed NotReady = Unit {0}
+WasServed TurnedAway = ⊥
+
+-- a status that one connection can come to, and no other than these
+abbrev pub IsOfConnection : Status → Type 0
+IsOfConnection Clean = Unit {0}
+IsOfConnection Cut = Unit {0}
+IsOfConnection Usage = Unit {0}
+IsOfConnection ReadFault = Unit {0}
+IsOfConnection WriteFault = Unit {0}
+IsOfConnection FileFault = Unit {0}
+IsOfConnection NoMemory = Unit {0}
+IsOfConnection NoSuchFolder = Unit {0}
+IsOfConnection PollFault = ⊥
+IsOfConnection AcceptFault = ⊥
+IsOfConnection Spent = ⊥
+IsOfConnection OutFault = ⊥
+IsOfConnection NotReady = Unit {0}
+IsOfConnection TurnedAway = ⊥
 
 -- no fault and no wait was counted
 pub record NoneRose (link later : LinkTold) (files since : FilesTold) : Type 0 where
@@ -70,7 +92,8 @@ pub record Leaves (status : Status) (link later : LinkTold) (files since : Files
 
 -- Why a status comes: by the words, by what the files answered for the root, and by the counts of the very link and files.
 pub record HasCause (status : Status) (words : Reading) (link later : LinkTold) (files since : FilesTold) : Type 0 where
-  pub usage : (status ≡ Usage) ↔ (words ≡ no_command)
+  pub own : IsOfConnection status
+  pub usage : (status ≡ Usage) ↔ (root_in words ≡ None)
   pub read_fault : status ≡ ReadFault → Rises link.faults.reads later.faults.reads
   pub write_fault : status ≡ WriteFault → Rises link.faults.writes later.faults.writes
   pub file_fault : status ≡ FileFault → Rises files.faults since.faults
@@ -86,6 +109,7 @@ pub record HasCause (status : Status) (words : Reading) (link later : LinkTold) 
 
 -- why a connection that was served ended as it did
 pub record IsServeCause (status : Status) (link later : LinkTold) (files since : FilesTold) : Type 0 where
+  pub own : IsOfConnection status
   pub was_read : status ≢ Usage
   pub was_there : status ≢ NoSuchFolder
   pub read_fault : status ≡ ReadFault → Rises link.faults.reads later.faults.reads

@@ -9,13 +9,13 @@ ghost use Rattle.conn_loop.specs.Stages.{failing};
 ghost use Rattle.conn_loop.specs.Standing.{AsksFor, IsAsking, Represents, SendsPrefixFor, StepImpliesFor};
 ghost use Rattle.conn_loop.specs.Steps.{to_go};
 ghost use Rattle.conn_loop.specs.Supplies.{Supplies};
-ghost use Rattle.warp_commands.specs.Words.{words_read};
+ghost use Rattle.warp_commands.specs.Words.{connection, words_read};
 ghost use Rattle.warp_commands.specs.Statuses.{IsStatus, line_of, TellsLine};
 ghost use Rattle.warp_commands.specs.Causes.{HasCause, IsServeCause, Leaves, Stays};
 ghost use Rattle.warp_commands.specs.Steps.{Brings, FailsSince, FilesKept, MayLook, fails_by, status_after};
 ghost use Rattle.warp_commands.specs.Served.{IsAnsweredFor};
 
-use crate::command::{Command, command_of};
+use crate::command::{Command, Usage, command_of};
 use crate::status::{Status, tell};
 use app_trait::FolderApp;
 use conn_loop::{Closing, Conn, End, Scratch, Step, Supply, nothing_is_open, sent_is_a_prefix};
@@ -72,9 +72,27 @@ fn carried_out<L: Link, F: Files, C: Clock>(
 {
     // The law that no bytes close nothing.
     nothing_is_open();
-    let Ok(Command::Connection { root }) = command_of(words) else {
-        return Status::Usage;
-    };
+    match command_of(words) {
+        Ok(Command::Connection { root }) => serve_one(alloc, root, link, files, clock),
+        Ok(Command::Drive { .. }) | Err(Usage) => Status::Usage,
+    }
+}
+
+/// Serves the one connection that the link is, with the files below a root, for which it asks first.
+pub(crate) fn serve_one<L: Link, F: Files, C: Clock>(
+    alloc: Global,
+    root: &str,
+    link: &mut L,
+    files: &mut F,
+    clock: &mut C,
+) -> Status
+    requires { IsFresh (L.told link.old) }
+    ensures answered { IsAnsweredFor result F.folder (L.told link.old) (L.told link.new) (C.told clock.old) (C.told clock.new) }
+    ensures caused { HasCause result (connection root.now) (L.told link.old) (L.told link.new) (F.told files.old) (F.told files.new) }
+    ensures leaves { Leaves result (L.told link.old) (L.told link.new) (F.told files.old) (F.told files.new) (C.told clock.old) (C.told clock.new) }
+{
+    // The law that no bytes close nothing.
+    nothing_is_open();
     match files.root(root) {
         RootOut::Present => served(alloc, link, files, clock),
         RootOut::Absent => Status::NoSuchFolder,

@@ -4,12 +4,25 @@
 //! that the written bytes are a prefix of the requests' answers in order, whole at a clean end, and why each status came.
 #![tactic(auto)]
 
+// What the words mean, and what a status is.
 mod command;
-mod connection;
 mod status;
+
+// One connection, served.
+mod connection;
+
+// A load, served, and what is told of it.
+mod load_run;
+mod printing;
+mod summary;
+
+// The call that a program is.
+mod program;
 
 pub use command::{Command, Usage, command_of};
 pub use connection::run_connection;
+pub use load_run::Driven;
+pub use program::{Host, run};
 pub use status::{Status, refuse};
 
 #[cfg(test)]

@@ -23,12 +23,22 @@ pub enum Status {
     NoMemory = 6,
     /// The root isn't there, or is no folder.
     NoSuchFolder = 7,
+    /// A poller failed.
+    PollFault = 8,
+    /// The listener failed in 1,000 accepts in a row.
+    AcceptFault = 9,
+    /// What the dispatchers share takes no more calls.
+    Spent = 10,
+    /// The output failed.
+    OutFault = 11,
     /// The link wasn't ready, and nothing here waits for it.
     NotReady = 13,
+    /// A connection was turned away, or timed out.
+    TurnedAway = 14,
 }
 
 const USAGE: &str =
-    "usage: warp_serve connection ROOT | serve ROOT ADDR PORT DISPATCHERS CONNECTIONS SECONDS | drive SEED CONNECTIONS REQUESTS DISPATCHERS\n";
+    "usage: warp_serve connection ROOT | drive SEED CONNECTIONS REQUESTS DISPATCHERS\n";
 
 impl Status {
     /// The exit status.
@@ -51,7 +61,12 @@ impl Status {
             Status::FileFault => "file fault\n",
             Status::NoMemory => "out of memory\n",
             Status::NoSuchFolder => "no such folder\n",
+            Status::PollFault => "poll fault\n",
+            Status::AcceptFault => "accept fault\n",
+            Status::Spent => "numbers used up\n",
+            Status::OutFault => "",
             Status::NotReady => "not ready\n",
+            Status::TurnedAway => "turned away\n",
         }
     }
 }

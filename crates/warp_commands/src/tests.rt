@@ -5,6 +5,7 @@ ghost use Rattle.outside.specs.ReadScript.{EachFilled};
 
 mod bodies;
 mod cuts;
+mod drives;
 mod files;
 
 use crate::run_connection;
@@ -539,13 +540,14 @@ fn a_root_that_is_not_there_and_a_moment_without_a_date(rt: HostRuntime) -> Resu
 }
 
 const USAGE: &str =
-    "usage: warp_serve connection ROOT | serve ROOT ADDR PORT DISPATCHERS CONNECTIONS SECONDS | drive SEED CONNECTIONS REQUESTS DISPATCHERS\n";
+    "usage: warp_serve connection ROOT | drive SEED CONNECTIONS REQUESTS DISPATCHERS\n";
 
 #[test]
 fn words_that_are_no_command_get_the_usage(rt: HostRuntime) -> Result<(), Fail> {
     let alloc = rt.alloc();
-    let wrong: [&[&str]; 5] = [
+    let wrong: [&[&str]; 6] = [
         &[],
+        &["drive", "7", "200", "20", "4"],
         &["connection"],
         &["connection", ""],
         &["connection", "a", "b"],

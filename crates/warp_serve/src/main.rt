@@ -7,20 +7,20 @@ use outside::{OsClock, OsFiles, StdLink, StdSink};
 use std::env;
 use std::io::ErrorKind;
 use std::process::ExitCode;
-use warp_commands::{Status, refuse, run_connection};
+use warp_commands::{Host, Status, refuse, run};
 
 fn main(rt: HostRuntime) -> ExitCode {
-    let mut errors = StdSink::new(rt.stderr());
+    let mut host = Host {
+        link: StdLink::new(rt.stdin(), rt.stdout()),
+        files: OsFiles::new(rt.alloc(), &rt),
+        clock: OsClock::new(&rt),
+        out: StdSink::new(rt.stdout()),
+        errors: StdSink::new(rt.stderr()),
+        driven: None,
+    };
     let code = match words_of(&rt) {
-        Ok(words) => run_connection(
-            rt.alloc(),
-            &words,
-            &mut StdLink::new(rt.stdin(), rt.stdout()),
-            &mut OsFiles::new(rt.alloc(), &rt),
-            &mut OsClock::new(&rt),
-            &mut errors,
-        ),
-        Err(status) => refuse(&mut errors, status),
+        Ok(words) => run(&rt, rt.alloc(), &words, &mut host),
+        Err(status) => refuse(&mut host.errors, status),
     };
     ExitCode::from(code)
 }

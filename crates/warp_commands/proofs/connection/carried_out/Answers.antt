@@ -1,18 +1,10 @@
 use Rattle.warp_commands.proofs.AnsweredLemmas.{untouched}
 use Rattle.warp_commands.proofs.connection.carried_out.Goals as goal
 
-pub returns-in_default-clause-answered : goal.returns-in_default-clause-answered
-returns-in_default-clause-answered g c =
+pub returns-in-Ok-Drive-clause-answered : goal.returns-in-Ok-Drive-clause-answered
+returns-in-Ok-Drive-clause-answered g c =
     untouched c.nothing_is_open.ensures _ (g.C.Clock.told c.args.clock.now) g.F.Files.folder (g.L.Link.told c.args.link.now) tt (g.met.L.Link.ended_told c.args.link.now) c.requires
 
-pub returns-in-Absent-clause-answered : goal.returns-in-Absent-clause-answered
-returns-in-Absent-clause-answered g c =
-    untouched c.nothing_is_open.ensures _ (g.C.Clock.told c.args.clock.now) g.F.Files.folder (g.L.Link.told c.args.link.now) tt (g.met.L.Link.ended_told c.args.link.now) c.requires
-
-pub returns-in-Failed-clause-answered : goal.returns-in-Failed-clause-answered
-returns-in-Failed-clause-answered g c =
-    untouched c.nothing_is_open.ensures _ (g.C.Clock.told c.args.clock.now) g.F.Files.folder (g.L.Link.told c.args.link.now) tt (g.met.L.Link.ended_told c.args.link.now) c.requires
-
-pub returns-in-NoMemory-clause-answered : goal.returns-in-NoMemory-clause-answered
-returns-in-NoMemory-clause-answered g c =
+pub returns-in-Ok-Drive-2-clause-answered : goal.returns-in-Ok-Drive-2-clause-answered
+returns-in-Ok-Drive-2-clause-answered g c =
     untouched c.nothing_is_open.ensures _ (g.C.Clock.told c.args.clock.now) g.F.Files.folder (g.L.Link.told c.args.link.now) tt (g.met.L.Link.ended_told c.args.link.now) c.requires

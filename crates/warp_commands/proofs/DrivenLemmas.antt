@@ -1,0 +1,51 @@
+-- Inner: what a server that served a load leaves, with pollers that never fail.
+use Rattle.std.proofs.Common.{◌≡◌, ℕ, ◌+◌, List, [], ◌∷◌, ◌++◌, length, Result, Ok, Err, IfOk, refl, sym, ap, ◌∙◌, subst, zero-add}
+use Rattle.std.specs.Prelude.{All}
+use Rattle.std.proofs.lemmas.List.Elements.{All-push}
+use Rattle.outside.specs.declared.files.Files.{Ghosts}
+use Rattle.turn_cell.specs.Weights.{weigh}
+use Rattle.poller.specs.Faults.{PollerFaults}
+use Rattle.warp_books.specs.declared.sum_book.SumBook.{SumBook}
+use Rattle.warp_books.specs.Books.{IsBookOf}
+use Rattle.warp_books.specs.EndCounts.{book_told}
+use Rattle.warp_jobs.specs.declared.kit.Kit.{Kit}
+use Rattle.warp_passes.specs.Levels.{ArePassesLevel}
+use Rattle.warp_passes.specs.Passes.{AreOf, pass_view}
+use Rattle.warp_core.specs.declared.served.Served.{Served}
+use Rattle.warp_core.specs.Ends.{EndsSo}
+use Rattle.warp_core.specs.Journals.{AreExplained}
+use Rattle.warp_commands.specs.Driven.{WasDriven}
+
+module _ {P F C G : Type 0} where
+  -- pollers that never fail have no faults together
+  no_polls : (faults : P → PollerFaults) → ((p : P) → (faults p).polls ≡ 0) → (kits : List (Kit P F C SumBook G)) → weigh (λ kit. (faults kit.poller).polls) kits ≡ 0
+  no_polls faults none [] = refl
+  no_polls faults none (kit ∷ kits) = ap (λ n. n + weigh (λ kit. (faults kit.poller).polls) kits) (none kit.poller) ∙ zero-add _ ∙ no_polls faults none kits
+
+  -- a kit more, whose book was handed nothing either
+  pub empty_books : (kits more : List (Kit P F C SumBook G)) (kit : Kit P F C SumBook G) → more ≡ kits ++ kit ∷ []
+      → All (λ kit. IsBookOf [] (book_told kit.book)) kits → IsBookOf [] (book_told kit.book) → All (λ kit. IsBookOf [] (book_told kit.book)) more
+  empty_books kits more kit is all one =
+      subst (λ (xs : List (Kit P F C SumBook G)). All (λ kit. IsBookOf [] (book_told kit.book)) xs) (sym is) (All-push (λ (kit : Kit P F C SumBook G). IsBookOf [] (book_told kit.book)) kits kit all one)
+
+module _ {P F C G L I X E : Type 0} {H : Ghosts F X} where
+  -- what a server left, where its pollers never fail
+  pub was_driven : (faults : P → PollerFaults) → ((p : P) → (faults p).polls ≡ 0) → (connections dispatchers count : ℕ) (r : Result (Served P F C SumBook G L I X H) E)
+      → count ≡ dispatchers
+      → IfOk r (λ s. All (λ pass. AreOf s.shared pass) s.passes.items)
+      → IfOk r (λ s. ArePassesLevel pass_view s.passes.items)
+      → IfOk r (λ s. AreExplained book_told connections s.passes.items s.kits.items)
+      → IfOk r (λ s. length s.kits.items ≡ count)
+      → IfOk r (λ s. EndsSo pass_view connections s.end s.passes.items (weigh (λ kit. (faults kit.poller).polls) s.kits.items))
+      → IfOk r (λ s. (s.limit ≡ connections) × (s.seconds ≡ 30))
+      → IfOk r (λ s. WasDriven connections dispatchers s)
+  was_driven faults none connections dispatchers count (Err e) is own level explained counted ends same = tt
+  was_driven faults none connections dispatchers count (Ok s) is own level explained counted ends same = record {
+    own = own;
+    level = level;
+    explained = explained;
+    count = counted ∙ is;
+    ends = subst (λ (n : ℕ). EndsSo pass_view connections s.end s.passes.items n) (no_polls faults none s.kits.items) ends;
+    limit = same.0;
+    seconds = same.1;
+  }

@@ -1,0 +1,11 @@
+use Rattle.std.proofs.Common.{refl, ◌∙◌}
+use Rattle.poller.specs.Rounds.{no_faults}
+use Rattle.warp_commands.proofs.DrivenLemmas.{was_driven}
+use Rattle.warp_commands.proofs.load_run.served_load.Goals as goal
+
+pub returns : goal.returns
+returns g c =
+    let served = c.serve_loop.ensures in
+    was_driven (λ p. no_faults) (λ p. refl) c.args.load.connections c.args.dispatchers _ c.serve_loop.result
+    (c.in_ok-kits.ensures.count ∙ c.in_ok-listener.ensures.count)
+    served.own served.level served.explained served.count served.ends served.same
