@@ -137,18 +137,24 @@ impl<P: Poller + Drop, F: Files + Drop, C: Drop, B: Drop, G: Drop> Parts<P, F, C
         requires room { (length rows.items ≤ vec_capacity self.passes) × (length rows.items ≤ vec_capacity self.kits) }
         ensures { HasParts rows.items result.passes.items result.kits.items }
     {
-        let mut parts = self;
+        let Parts {
+            mut passes,
+            mut kits,
+            mut listener,
+        } = self;
         for row in rows {
             let Row { disp, runner, .. } = row;
             let ServerRunner {
                 timed, cached, tallied, poller, files, clock, book, gate, back, ..
             } = runner;
-            parts.passes.push_reserved(ServePass { disp, times: timed, cache: cached, tally: tallied });
-            parts.kits.push_reserved(Kit { poller, files, clock, book, gate });
-            if back.is_some() {
-                parts.listener = back;
-            }
+            passes.push_reserved(ServePass { disp, times: timed, cache: cached, tally: tallied });
+            kits.push_reserved(Kit { poller, files, clock, book, gate });
+            listener = back.or(listener);
         }
-        parts
+        Parts {
+            passes,
+            kits,
+            listener,
+        }
     }
 }

@@ -7,6 +7,7 @@ ghost use Rattle.warp_books.specs.Books.{IsBookOf};
 ghost use Rattle.warp_passes.specs.Cells.{SeatsAreOnce};
 ghost use Rattle.warp_passes.specs.Levels.{ArePassesLevel};
 ghost use Rattle.warp_passes.specs.Passes.{AreOf, pass_view};
+ghost use Rattle.warp_core.specs.declared.row.Halted.TheVariants as Halts;
 ghost use Rattle.warp_core.specs.Ends.{EndsSo};
 ghost use Rattle.warp_core.specs.Journals.{AreExplained};
 ghost use Rattle.warp_core.specs.Rows.{HasGoneOn, Serves, known_by};
@@ -72,10 +73,40 @@ where
     let (shared, passes) = shared_among(alloc, kits.len())?;
     let shared = Arc::new(alloc, shared)?;
     let mut rows = rows_of(alloc, &shared, passes, kits, limit, seconds)?;
-    begin(rt, &shared, rows.as_mut_slice(), listener);
-    let end = serve_on(rt, &shared, rows.as_mut_slice(), limit);
+    let end = listen_and_serve(rt, &shared, rows.as_mut_slice(), listener, limit);
     let Parts { passes, kits, listener } = parts.fill(rows);
     Ok(Served { end, shared, passes, kits, listener, limit, seconds })
+}
+
+/// The first dispatcher begins to listen, and then all are turned until the server ended.
+fn listen_and_serve<P, F, C, B, G, R>(
+    rt: &R,
+    shared: &Shared<Job<P, F>, F>,
+    rows: &mut [Row<P, F, C, B, G>],
+    listener: P::Listener,
+    limit: u64,
+) -> ServeEnd
+where
+    P: Poller + Send,
+    F: Files + Send,
+    C: Clock + Send,
+    B: Book<Finished<P::Link, F>> + Send,
+    G: Gate + Send,
+    R: Threads + Wait + Sync,
+    P::Link: Send,
+    P::Listener: Send,
+    F::File: Send,
+    requires some { 0 < length rows.old }
+    requires serve { All (λ row. Serves B.told P.meaning.faults shared.now row) rows.old }
+    requires limit { All (λ row. row.runner.limit ≡ limit) rows.old }
+    requires new { SeatsAreOnce known_by rows.old × All (λ row. row.disp.hand ≡ []) rows.old }
+    requires listener { (P.Listener.told listener).failed_row ≡ 0 }
+    ensures serve { All (λ row. Serves B.told P.meaning.faults shared.now row) rows.new × All (λ row. row.runner.limit ≡ limit) rows.new }
+    ensures level { ArePassesLevel known_by rows.new }
+    ensures ends { EndsSo known_by limit result rows.new (weigh (λ row. (P.meaning.faults row.runner.poller).polls) rows.new) }
+{
+    begin(rt, shared, rows, listener);
+    serve_on(rt, shared, rows, limit)
 }
 
 /// The first dispatcher begins to listen.
@@ -113,12 +144,20 @@ fn listen<P: Poller, F: Files, C: Clock, B: Book<Finished<P::Link, F>>, G: Gate,
     ensures serves { Serves B.told P.meaning.faults shared.now row.new }
     ensures goes_on { HasGoneOn row.old row.new }
 {
+    // Nothing has stopped the dispatcher.
+    row.halted = None;
     match row.runner.begin_listening(rt, &shared.mgr, &mut row.disp.mgr, listener) {
         Ok(None) => {}
         Ok(Some(event)) => row.disp.hand.push(event),
-        Err(POLL_FAULT) => halt(rt, shared, row, Halted::PollFault),
-        Err(code) => halt(rt, shared, row, Halted::WithCode(code)),
+        Err(code) => halt(rt, shared, row, halted_with(code)),
     }
+}
+
+/// Why a dispatcher makes no turn that couldn't begin to listen.
+fn halted_with(code: u8) -> Halted
+    ensures { result ≡ Halts.PollFault → code ≡ 8 }
+{
+    if code == POLL_FAULT { Halted::PollFault } else { Halted::WithCode(code) }
 }
 
 /// Turns all dispatchers until the server ended.

@@ -1,0 +1,66 @@
+use Rattle.std.proofs.Common.{[], length, ap, arith}
+use Rattle.std.specs.Prelude.{None}
+use Rattle.event_mgr.specs.Manager.{mgr_view}
+use Rattle.warp_runner.specs.Runs.{begun_by}
+use Rattle.warp_core.proofs.Serving.{cells_of, goes_by, goes_then, made_grown, serves_with}
+use Rattle.warp_core.proofs.serve.listen.Goals as goal
+
+pub begin_listening-requires-clause-mgr : goal.begin_listening-requires-clause-mgr
+begin_listening-requires-clause-mgr g c = c.requires.serves.own.passes.disp.0
+
+pub begin_listening-requires-clause-own : goal.begin_listening-requires-clause-own
+begin_listening-requires-clause-own g c = cells_of c.args.shared.now c.args.row.now c.requires.serves.own
+
+pub begin_listening-requires-clause-unfailed : goal.begin_listening-requires-clause-unfailed
+begin_listening-requires-clause-unfailed g c = c.requires.listener
+
+pub push-requires : goal.push-requires
+push-requires g c = let none = ap length c.requires.hand in omega arith
+
+pub halt-requires-clause-serves : goal.halt-requires-clause-serves
+halt-requires-clause-serves g c =
+    let x = c.args.row.now in
+    let e = c.begin_listening.ensures in
+    let y = record x { disp = record x.disp { mgr = c.begin_listening.new.pass }; runner = c.begin_listening.new.self; halted = None } in
+    serves_with g.B.Book.told g.P.Poller.meaning.faults c.args.shared.now x y c.requires.serves (e.mgr, c.requires.serves.own.passes.disp.1) e.own e.same.0 (e.fits [] c.requires.serves.fits) tt
+
+pub halt-requires-clause-faulted : goal.halt-requires-clause-faulted
+halt-requires-clause-faulted g c = λ is. c.in-Err.ensures.faulted (c.halted_with.ensures is)
+
+pub returns-in-Ok-None-clause-serves : goal.returns-in-Ok-None-clause-serves
+returns-in-Ok-None-clause-serves g c =
+    let x = c.args.row.now in
+    let e = c.begin_listening.ensures in
+    let y = record x { disp = record x.disp { mgr = c.begin_listening.new.pass }; runner = c.begin_listening.new.self; halted = None } in
+    serves_with g.B.Book.told g.P.Poller.meaning.faults c.args.shared.now x y c.requires.serves (e.mgr, c.requires.serves.own.passes.disp.1) e.own e.same.0 (e.fits [] c.requires.serves.fits) tt
+
+pub returns-in-Ok-None-clause-goes_on : goal.returns-in-Ok-None-clause-goes_on
+returns-in-Ok-None-clause-goes_on g c =
+    let x = c.args.row.now in
+    let e = c.begin_listening.ensures in
+    let y = record x { disp = record x.disp { mgr = c.begin_listening.new.pass }; runner = c.begin_listening.new.self; halted = None } in
+    goes_by x y (made_grown (mgr_view x.disp.mgr) (begun_by c.begin_listening.result) (mgr_view c.begin_listening.new.pass) e.made) e.stays.0 e.same.1
+
+pub returns-in-Ok-Some-clause-serves : goal.returns-in-Ok-Some-clause-serves
+returns-in-Ok-Some-clause-serves g c =
+    let x = c.args.row.now in
+    let e = c.begin_listening.ensures in
+    let y = record x { disp = record x.disp { mgr = c.begin_listening.new.pass; hand = c.push.new.self }; runner = c.begin_listening.new.self; halted = None } in
+    serves_with g.B.Book.told g.P.Poller.meaning.faults c.args.shared.now x y c.requires.serves (e.mgr, c.requires.serves.own.passes.disp.1) e.own e.same.0 (e.fits [] c.requires.serves.fits) tt
+
+pub returns-in-Ok-Some-clause-goes_on : goal.returns-in-Ok-Some-clause-goes_on
+returns-in-Ok-Some-clause-goes_on g c =
+    let x = c.args.row.now in
+    let e = c.begin_listening.ensures in
+    let y = record x { disp = record x.disp { mgr = c.begin_listening.new.pass; hand = c.push.new.self }; runner = c.begin_listening.new.self; halted = None } in
+    goes_by x y (made_grown (mgr_view x.disp.mgr) (begun_by c.begin_listening.result) (mgr_view c.begin_listening.new.pass) e.made) e.stays.0 e.same.1
+
+pub returns-in-Err-clause-serves : goal.returns-in-Err-clause-serves
+returns-in-Err-clause-serves g c = c.halt.ensures.serves
+
+pub returns-in-Err-clause-goes_on : goal.returns-in-Err-clause-goes_on
+returns-in-Err-clause-goes_on g c =
+    let x = c.args.row.now in
+    let e = c.begin_listening.ensures in
+    let y = record x { disp = record x.disp { mgr = c.begin_listening.new.pass }; runner = c.begin_listening.new.self; halted = None } in
+    goes_then x y c.halt.new.row (goes_by x y (made_grown (mgr_view x.disp.mgr) (begun_by c.begin_listening.result) (mgr_view c.begin_listening.new.pass) e.made) e.stays.0 e.same.1) c.halt.ensures.goes_on
