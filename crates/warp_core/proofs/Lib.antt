@@ -1,4 +1,5 @@
 pub mod Apart
+pub mod Filling
 pub mod Halting
 pub mod Levelled
 pub mod Looked

@@ -21,13 +21,13 @@ pub serve_on-requires-clause-some : goal.serve_on-requires-clause-some
 serve_on-requires-clause-some g c = let some = c.requires.some in omega arith
 
 pub serve_on-requires-clause-serve : goal.serve_on-requires-clause-serve
-serve_on-requires-clause-serve g c = c.begin.ensures.serve
+serve_on-requires-clause-serve g c = λ κs lives. c.begin.ensures.serve
 
 pub serve_on-requires-clause-limit : goal.serve_on-requires-clause-limit
-serve_on-requires-clause-limit g c = all_same_by (λ row. row.runner.limit) c.args.limit c.args.rows.now c.begin.new.rows c.begin.ensures.limit c.requires.limit
+serve_on-requires-clause-limit g c = λ κs lives. all_same_by (λ row. row.runner.limit) c.args.limit c.args.rows.now c.begin.new.rows c.begin.ensures.limit c.requires.limit
 
 pub serve_on-requires-clause-seats : goal.serve_on-requires-clause-seats
-serve_on-requires-clause-seats g c = c.begin.ensures.seats
+serve_on-requires-clause-seats g c = λ κs lives. c.begin.ensures.seats
 
 pub returns-clause-serve : goal.returns-clause-serve
 returns-clause-serve g c = (c.serve_on.ensures.serve, c.serve_on.ensures.limit)

@@ -30,10 +30,10 @@ pub returns-in-Some-settle-clause-ends : goal.returns-in-Some-settle-clause-ends
 returns-in-Some-settle-clause-ends g c = c.in-Some-settle.ensures.ends
 
 pub turn_all-requires-clause-serve : goal.turn_all-requires-clause-serve
-turn_all-requires-clause-serve g c = c.settle.ensures.serve
+turn_all-requires-clause-serve g c = λ κs lives. c.settle.ensures.serve
 
 pub turn_all-requires-clause-seats : goal.turn_all-requires-clause-seats
-turn_all-requires-clause-seats g c = c.settle.ensures.seats
+turn_all-requires-clause-seats g c = λ κs lives. c.settle.ensures.seats
 
 pub loop-preserved : goal.loop-preserved
 loop-preserved g c = record {

@@ -5,6 +5,8 @@ use Rattle.warp_core.proofs.making.Parts.fill.Given as goal
 
 abbrev pub invariant-loop-row : goal.invariant-loop-row
 invariant-loop-row g l = record {
+  many : length l.passes.items + into_iter_len l.row-iterator ≡ length l.fn.rows.items;
+  both : length l.kits.items ≡ length l.passes.items;
   room : length l.passes.items + into_iter_len l.row-iterator ≤ vec_capacity l.passes;
   space : length l.kits.items + into_iter_len l.row-iterator ≤ vec_capacity l.kits;
   passes : l.passes.items ++ map passes_of (into_iter_items l.row-iterator) ≡ map passes_of l.fn.rows.items;
