@@ -69,8 +69,9 @@ where
 {
     // A law of seats, for the proof: it does nothing when run.
     moved_passes_hold_the_seats::<ServePass<Job<P, F>, F>, Row<P, F, C, B, G>, Lease<F>>();
-    let parts = Parts::with_capacity(alloc, kits.len())?;
-    let (shared, passes) = shared_among(alloc, kits.len())?;
+    let count = kits.len();
+    let parts = Parts::with_capacity(alloc, count)?;
+    let (shared, passes) = shared_among(alloc, count)?;
     let shared = Arc::new(alloc, shared)?;
     let mut rows = rows_of(alloc, &shared, passes, kits, limit, seconds)?;
     let end = listen_and_serve(rt, &shared, rows.as_mut_slice(), listener, limit);
