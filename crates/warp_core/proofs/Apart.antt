@@ -5,7 +5,7 @@ use Rattle.outside.specs.declared.files.Files.{Ghosts}
 use Rattle.turn_cell.specs.declared.view.View.{View}
 use Rattle.turn_cell.specs.Weights.{weigh}
 use Rattle.level.specs.Leveling.{IsLevel}
-use Rattle.level.proofs.Lists.{All-head, All-tail, map_map, weigh_map}
+use Rattle.level.proofs.Lists.{All-head, All-tail, length_map, map_map, weigh_map}
 use Rattle.event_mgr.specs.Manager.{stripe_view}
 use Rattle.poller.specs.Faults.{PollerFaults}
 use Rattle.warp_tally.specs.declared.calls.TallyEntry.{TallyEntry}
@@ -85,3 +85,23 @@ module _ {P F C B G L I X : Type 0} {H : Ghosts F X} (told : B → BookTold) (fa
       → All (λ row. Serves told faults s row) rows → All (λ row. row.runner.limit ≡ limit) rows → AreExplained told limit passes kits
   explained_apart rows passes kits parts serve limits = subst (λ (ps : List (ServePass (Job P F L I X) F X H)). AreExplained told limit ps kits) (sym parts.passes_are)
       (explained_by rows kits parts.books serve limits)
+
+  pub served_own : (rows : List (Row P F C B G L I X H)) (passes : List (ServePass (Job P F L I X) F X H)) (kits : List (Kit P F C B G)) → HasParts rows passes kits
+      → All (λ row. Serves told faults s row) rows → All (λ pass. AreOf s pass) passes
+  served_own rows passes kits parts serve = subst (All (λ pass. AreOf s pass)) (sym parts.passes_are)
+      (all_parts (λ pass. AreOf s pass) passes_of rows (λ k d lt. (serve k d lt).own.passes))
+
+  pub served_level : (rows : List (Row P F C B G L I X H)) (passes : List (ServePass (Job P F L I X) F X H)) (kits : List (Kit P F C B G)) → HasParts rows passes kits
+      → ArePassesLevel known_by rows → ArePassesLevel pass_view passes
+  served_level rows passes kits parts level = subst (ArePassesLevel pass_view) (sym parts.passes_are) (level_parts pass_view passes_of rows level)
+
+  pub served_ends : (end : ServeEnd) (rows : List (Row P F C B G L I X H)) (passes : List (ServePass (Job P F L I X) F X H)) (kits : List (Kit P F C B G)) → HasParts rows passes kits
+      → EndsSo known_by limit end rows (weigh (λ row. (faults row.runner.poller).polls) rows) → EndsSo pass_view limit end passes (weigh (λ kit. (faults kit.poller).polls) kits)
+  served_ends end rows passes kits parts ends =
+      let m = weigh (λ (kit : Kit P F C B G). (faults kit.poller).polls) kits in
+      let n = weigh (λ (row : Row P F C B G L I X H). (faults row.runner.poller).polls) rows in
+      subst (λ (ps : List (ServePass (Job P F L I X) F X H)). EndsSo pass_view limit end ps m) (sym parts.passes_are)
+          (end_parts pass_view passes_of limit end rows m n (weigh_told (λ (p : P). (faults p).polls) (λ kit. kit.poller) (λ row. row.runner.poller) kits rows parts.pollers) ends)
+
+  pub served_count : (rows : List (Row P F C B G L I X H)) (passes : List (ServePass (Job P F L I X) F X H)) (kits : List (Kit P F C B G)) → HasParts rows passes kits → length kits ≡ length rows
+  served_count rows passes kits parts = sym (length_map (λ (kit : Kit P F C B G). kit.book) kits) ∙ (ap length parts.books ∙ length_map (λ (row : Row P F C B G L I X H). row.runner.book) rows)

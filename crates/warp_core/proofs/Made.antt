@@ -1,5 +1,5 @@
 -- Dispatchers that are made of new passes and empty books serve.
-use Rattle.std.proofs.Common.{◌≡◌, ℕ, List, [], ◌∷◌, map, length, get_or, All, sym, subst, arith}
+use Rattle.std.proofs.Common.{◌≡◌, ℕ, List, [], ◌∷◌, map, length, get_or, All, sym, ap, ◌∙◌, subst, arith}
 use Rattle.std.specs.Prelude.{Option}
 use Rattle.outside.specs.declared.files.Files.{Ghosts}
 use Rattle.turn_cell.specs.Calls.{view_of}
@@ -13,7 +13,7 @@ use Rattle.warp_passes.specs.declared.shared.ServePass.{ServePass}
 use Rattle.warp_passes.specs.Passes.{PassView, AreOf, IsLawfulPass, lawful_of, pass_view}
 use Rattle.warp_passes.specs.Levels.{AreNewPasses, DidNothing, IsNew}
 use Rattle.std.proofs.lemmas.List.Elements.{All-cons}
-use Rattle.level.proofs.Lists.{All-head, All-tail}
+use Rattle.level.proofs.Lists.{All-head, All-tail, map_map}
 use Rattle.warp_core.specs.declared.row.Row.{Row}
 use Rattle.warp_core.specs.declared.row.Halted.{Halted}
 use Rattle.warp_core.specs.Making.{IsPlain}
@@ -26,7 +26,7 @@ of_map : {A B : Type 0} (f : A → B) (P : B → Type 0) (xs : List A) → All P
 of_map f P [] all = λ k d h. absurd (omega arith)
 of_map f P (x ∷ xs) all = All-cons (λ y. P (f y)) x xs (All-head P (f x) (map f xs) all) (of_map f P xs (All-tail P (f x) (map f xs) all))
 
-each_row : {A B : Type 0} (f : A → B) (P : B → Type 0) (xs : List A) (ys : List B) → map f xs ≡ ys → All P ys → All (λ x. P (f x)) xs
+pub each_row : {A B : Type 0} (f : A → B) (P : B → Type 0) (xs : List A) (ys : List B) → map f xs ≡ ys → All P ys → All (λ x. P (f x)) xs
 each_row f P xs ys same all = of_map f P xs (subst (All P) (sym same) all)
 
 module _ {P F C B G L I X : Type 0} {H : Ghosts F X} (told : B → BookTold) (faults : P → PollerFaults) (s : Shared (Job P F L I X) F X H) (limit : ℕ) where
@@ -48,3 +48,12 @@ module _ {P F C B G L I X : Type 0} {H : Ghosts F X} (told : B → BookTold) (fa
 
   pub new_limits : (rows : List (Row P F C B G L I X H)) → All (IsPlain s limit) rows → All (λ row. row.runner.limit ≡ limit) rows
   new_limits rows plain k d lt = (plain k d lt).limit_is
+
+-- new passes in rows hold each seat once, and have empty hands
+module _ {P F C B G L I X : Type 0} {H : Ghosts F X} (s : Shared (Job P F L I X) F X H) where
+  pub known_rows : (rows : List (Row P F C B G L I X H)) (passes : List (ServePass (Job P F L I X) F X H)) → map passes_of rows ≡ passes → map known_by rows ≡ map pass_view passes
+  known_rows rows passes same = map_map pass_view passes_of rows ∙ ap (map pass_view) same
+
+  pub new_hands : (rows : List (Row P F C B G L I X H)) (passes : List (ServePass (Job P F L I X) F X H)) → map passes_of rows ≡ passes → AreNewPasses s passes
+      → All (λ row. row.disp.hand ≡ []) rows
+  new_hands rows passes same new k d lt = (each_row passes_of (λ p. IsNew (pass_view p)) rows passes same new.new k d lt).hand

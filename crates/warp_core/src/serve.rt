@@ -26,7 +26,7 @@ use std::thread::{Threads, for_each_mut};
 use warp_books::{Book, Finished};
 use warp_jobs::{Gate, Job, Kit};
 use warp_passes::{
-    Shared, grown_passes_hold_the_seats, moved_passes_hold_the_seats, shared_among,
+    ServePass, Shared, grown_passes_hold_the_seats, moved_passes_hold_the_seats, shared_among,
 };
 use warp_runner::POLL_FAULT;
 
@@ -68,9 +68,10 @@ where
     ensures same { IfOk result (λ served. (served.limit ≡ limit) × (served.seconds ≡ seconds)) }
 {
     // A law of seats, for the proof: it does nothing when run.
-    moved_passes_hold_the_seats::<Served<P, F, C, B, G>, Row<P, F, C, B, G>, Lease<F>>();
-    let parts = Parts::with_capacity(alloc, kits.len())?;
-    let (shared, passes) = shared_among(alloc, kits.len())?;
+    moved_passes_hold_the_seats::<ServePass<Job<P, F>, F>, Row<P, F, C, B, G>, Lease<F>>();
+    let count = kits.len();
+    let parts = Parts::with_capacity(alloc, count)?;
+    let (shared, passes) = shared_among(alloc, count)?;
     let shared = Arc::new(alloc, shared)?;
     let mut rows = rows_of(alloc, &shared, passes, kits, limit, seconds)?;
     let end = listen_and_serve(rt, &shared, rows.as_mut_slice(), listener, limit);
