@@ -2,6 +2,7 @@
 use Rattle.std.proofs.Common.{◌≡◌, ℕ, ◌+◌, List, [], ◌∷◌, ◌++◌, length, Result, Ok, Err, IfOk, refl, sym, ap, ◌∙◌, subst, zero-add}
 use Rattle.std.specs.Prelude.{All}
 use Rattle.std.proofs.lemmas.List.Elements.{All-push}
+use Rattle.std.specs.Arc.{arc_value}
 use Rattle.outside.specs.declared.files.Files.{Ghosts}
 use Rattle.turn_cell.specs.Weights.{weigh}
 use Rattle.poller.specs.Faults.{PollerFaults}
@@ -32,7 +33,7 @@ module _ {P F C G L I X E : Type 0} {H : Ghosts F X} where
   -- what a server left, where its pollers never fail
   pub was_driven : (faults : P → PollerFaults) → ((p : P) → (faults p).polls ≡ 0) → (connections dispatchers count : ℕ) (r : Result (Served P F C SumBook G L I X H) E)
       → count ≡ dispatchers
-      → IfOk r (λ s. All (λ pass. AreOf s.shared pass) s.passes.items)
+      → IfOk r (λ s. All (λ pass. AreOf (arc_value s.shared) pass) s.passes.items)
       → IfOk r (λ s. ArePassesLevel pass_view s.passes.items)
       → IfOk r (λ s. AreExplained book_told connections s.passes.items s.kits.items)
       → IfOk r (λ s. length s.kits.items ≡ count)

@@ -1,5 +1,6 @@
 -- To be believed: what serving a load leaves, how it ended by what was counted, and what it prints.
 use Rattle.std.specs.Prelude.{◌≡◌, ◌≢◌, ◌⊎◌, ℕ, ◌<◌, List, ◌++◌, All, length, codes, decimal}
+use Rattle.std.specs.Arc.{arc_value}
 use Rattle.outside.specs.declared.files.Files.{Ghosts}
 use Rattle.outside.specs.declared.sink.SinkOut.TheVariants.{Stored, Failed}
 use Rattle.outside.specs.SinkCauses.{Puts, SinkTold}
@@ -138,7 +139,7 @@ module _ {P F C G L I X : Type 0} {H : Ghosts F X} where
   -- What a server left that served a load with so many dispatchers: the passes are of what all shared and level, a journal
   -- explains what each dispatcher did, and the end has its cause; no poller failed.
   pub record WasDriven (connections dispatchers : ℕ) (s : Served P F C SumBook G L I X H) : Type 0 where
-    pub own : All (λ pass. AreOf s.shared pass) s.passes.items
+    pub own : All (λ pass. AreOf (arc_value s.shared) pass) s.passes.items
     pub level : ArePassesLevel pass_view s.passes.items
     pub explained : AreExplained book_told connections s.passes.items s.kits.items
     pub count : length s.kits.items ≡ dispatchers

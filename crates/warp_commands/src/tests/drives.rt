@@ -3,17 +3,23 @@
 use super::{ASKED, MOMENT, PAGE, ROOM, Scene, USAGE, over_the_site, site, whole};
 use crate::{Host, run};
 use outside::{MemClock, MemFiles, MemSink, PieceLink};
-use std::alloc::AllocError;
+use std::alloc::{AllocError, Global};
 use std::marker::Brand;
+use std::sync::Wait;
 use std::test::Fail;
+use std::thread::Threads;
 use warp_core::{Counts, ServeEnd};
 
 /// What a command is run with here.
 type MemHost = Host<PieceLink, MemFiles<Brand>, MemClock, MemSink, MemSink>;
 
 /// Runs these words over the site, with a link that asks for a page and so much room for lines: the status, and the host.
-fn ran(rt: &HostRuntime, words: &[&str], room: usize) -> Result<(u8, MemHost), AllocError> {
-    let alloc = rt.alloc();
+fn ran<R: Threads + Wait + Sync>(
+    rt: &R,
+    alloc: Global,
+    words: &[&str],
+    room: usize,
+) -> Result<(u8, MemHost), AllocError> {
     let mut owned = Vec::new(alloc);
     for word in words {
         owned.push(String::from_str(alloc, word)?)?;
@@ -33,22 +39,22 @@ fn ran(rt: &HostRuntime, words: &[&str], room: usize) -> Result<(u8, MemHost), A
 #[test]
 fn a_load_adds_up_to_the_same_for_any_number_of_dispatchers(rt: HostRuntime) -> Result<(), Fail> {
     for dispatchers in ["1", "2", "3", "8"] {
-        let (status, host) = ran(&rt, &["drive", "7", "8", "8", dispatchers], 100)?;
+        let (status, host) = ran(&rt, rt.alloc(), &["drive", "7", "8", "8", dispatchers], 100)?;
         assert_eq!(rt; status, 0, "{dispatchers}");
         assert_eq!(rt;
             host.out.bytes(),
-            b"connections 8\nrequests 64\nbytes 336648\n",
+            b"connections 8\nrequests 64\nbytes 336648\n".as_slice(),
             "{dispatchers}"
         );
-        assert_eq!(rt; host.errors.bytes(), b"", "{dispatchers}");
-        assert_eq!(rt; host.link.sent(), b"", "the link is not used");
+        assert_eq!(rt; host.errors.bytes(), b"".as_slice(), "{dispatchers}");
+        assert_eq!(rt; host.link.sent(), b"".as_slice(), "the link is not used");
     }
     Ok(())
 }
 
 #[test]
 fn what_a_server_left_is_in_the_host(rt: HostRuntime) -> Result<(), Fail> {
-    let (_status, host) = ran(&rt, &["drive", "0", "3", "1", "2"], 100)?;
+    let (_status, host) = ran(&rt, rt.alloc(), &["drive", "0", "3", "1", "2"], 100)?;
     let Some(driven) = &host.driven else {
         return Err(Fail::from("nothing was left"));
     };
@@ -68,14 +74,14 @@ fn what_a_server_left_is_in_the_host(rt: HostRuntime) -> Result<(), Fail> {
 fn an_output_without_room_gets_the_front_of_the_lines(rt: HostRuntime) -> Result<(), Fail> {
     let lines = b"connections 1\nrequests 1\nbytes 140\n";
     for room in 0..lines.len() {
-        let (status, host) = ran(&rt, &["drive", "0", "1", "1", "1"], room)?;
+        let (status, host) = ran(&rt, rt.alloc(), &["drive", "0", "1", "1", "1"], room)?;
         assert_eq!(rt; status, 11, "{room}");
         assert_eq!(rt; host.out.bytes(), &lines[..room], "{room}");
-        assert_eq!(rt; host.errors.bytes(), b"", "{room}");
+        assert_eq!(rt; host.errors.bytes(), b"".as_slice(), "{room}");
     }
-    let (status, host) = ran(&rt, &["drive", "0", "1", "1", "1"], lines.len())?;
+    let (status, host) = ran(&rt, rt.alloc(), &["drive", "0", "1", "1", "1"], lines.len())?;
     assert_eq!(rt; status, 0);
-    assert_eq!(rt; host.out.bytes(), lines);
+    assert_eq!(rt; host.out.bytes(), lines.as_slice());
     Ok(())
 }
 
@@ -92,9 +98,9 @@ fn words_of_no_load_are_no_command(rt: HostRuntime) -> Result<(), Fail> {
         &["serve", "7", "200", "20", "4"],
     ];
     for words in wrong {
-        let (status, host) = ran(&rt, words, 100)?;
+        let (status, host) = ran(&rt, rt.alloc(), words, 100)?;
         assert_eq!(rt; status, 2);
-        assert_eq!(rt; host.out.bytes(), b"");
+        assert_eq!(rt; host.out.bytes(), b"".as_slice());
         assert_eq!(rt; host.errors.bytes(), USAGE.as_bytes());
         assert!(rt; host.driven.is_none());
     }
@@ -104,7 +110,7 @@ fn words_of_no_load_are_no_command(rt: HostRuntime) -> Result<(), Fail> {
 #[test]
 fn one_connection_is_served_as_by_its_own_call(rt: HostRuntime) -> Result<(), Fail> {
     let words = ["connection", "site"];
-    let (status, host) = ran(&rt, &words, 100)?;
+    let (status, host) = ran(&rt, rt.alloc(), &words, 100)?;
     let outcome = over_the_site(
         rt.alloc(),
         &words,
