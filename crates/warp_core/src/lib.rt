@@ -23,6 +23,3 @@ mod settling;
 
 pub use serve::serve_loop;
 pub use served::{Counts, ServeEnd, Served};
-
-#[cfg(test)]
-mod tests;
