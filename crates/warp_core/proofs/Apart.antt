@@ -77,9 +77,10 @@ module _ {P F C B G L I X : Type 0} {H : Ghosts F X} (told : B → BookTold) (fa
       let serves = All-head (λ z. Serves told faults s z) row rows serve in
       let book : kit.book ≡ row.runner.book = ap (head_or kit.book) same in
       let limit_is = All-head (λ (z : Row P F C B G L I X H). z.runner.limit ≡ limit) row rows limits in
-      let one : Fits limit (told_by told row) [] = subst (λ (n : ℕ). Fits n (told_by told row) []) limit_is serves.fits in
-      (subst (λ (b : B). Fits limit (record (told_by told row) { book = told b }) []) (sym book) one,
-      explained_by rows kits (ap tail_of same) (All-tail (λ z. Serves told faults s z) row rows serve) (All-tail (λ (z : Row P F C B G L I X H). z.runner.limit ≡ limit) row rows limits))
+      let one : Fits limit (told_by told row) [] = subst (λ (n : ℕ). Fits n (told_by told row) []) limit_is serves.fits in (
+        subst (λ (b : B). Fits limit (record (told_by told row) { book = told b }) []) (sym book) one,
+        explained_by rows kits (ap tail_of same) (All-tail (λ z. Serves told faults s z) row rows serve) (All-tail (λ (z : Row P F C B G L I X H). z.runner.limit ≡ limit) row rows limits),
+      )
 
   pub explained_apart : (rows : List (Row P F C B G L I X H)) (passes : List (ServePass (Job P F L I X) F X H)) (kits : List (Kit P F C B G)) → HasParts rows passes kits
       → All (λ row. Serves told faults s row) rows → All (λ row. row.runner.limit ≡ limit) rows → AreExplained told limit passes kits
@@ -101,7 +102,7 @@ module _ {P F C B G L I X : Type 0} {H : Ghosts F X} (told : B → BookTold) (fa
       let m = weigh (λ (kit : Kit P F C B G). (faults kit.poller).polls) kits in
       let n = weigh (λ (row : Row P F C B G L I X H). (faults row.runner.poller).polls) rows in
       subst (λ (ps : List (ServePass (Job P F L I X) F X H)). EndsSo pass_view limit end ps m) (sym parts.passes_are)
-          (end_parts pass_view passes_of limit end rows m n (weigh_told (λ (p : P). (faults p).polls) (λ kit. kit.poller) (λ row. row.runner.poller) kits rows parts.pollers) ends)
+      (end_parts pass_view passes_of limit end rows m n (weigh_told (λ (p : P). (faults p).polls) (λ kit. kit.poller) (λ row. row.runner.poller) kits rows parts.pollers) ends)
 
   pub served_count : (rows : List (Row P F C B G L I X H)) (passes : List (ServePass (Job P F L I X) F X H)) (kits : List (Kit P F C B G)) → HasParts rows passes kits → length kits ≡ length rows
   served_count rows passes kits parts = sym (length_map (λ (kit : Kit P F C B G). kit.book) kits) ∙ (ap length parts.books ∙ length_map (λ (row : Row P F C B G L I X H). row.runner.book) rows)

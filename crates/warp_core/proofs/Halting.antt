@@ -49,8 +49,8 @@ rests_by_code : (end : ServeEnd) (code : ℕ) (polls : ℕ) (tally : View TallyE
 rests_by_code end code polls tally is halts = ⊎_elim
     (λ a. subst (λ (e : ServeEnd). RestsOn e polls tally) (sym a.0) (let c = ap (λ (n : ℕ). weigh (stops n) (entries_of tally)) a.1 in omega arith))
     (λ b. ⊎_elim
-      (λ a. subst (λ (e : ServeEnd). RestsOn e polls tally) (sym a.0) (let c = ap (λ (n : ℕ). weigh (stops n) (entries_of tally)) a.1 in omega arith))
-      (λ a. subst (λ (e : ServeEnd). RestsOn e polls tally) (sym a) tt) b) is
+    (λ a. subst (λ (e : ServeEnd). RestsOn e polls tally) (sym a.0) (let c = ap (λ (n : ℕ). weigh (stops n) (entries_of tally)) a.1 in omega arith))
+    (λ a. subst (λ (e : ServeEnd). RestsOn e polls tally) (sym a) tt) b) is
 
 rests_on : (end : ServeEnd) (h : Option Halted) (polls : ℕ) (tally : View TallyEntry) → IsSomeAnd h (λ halted. EndOf halted end) → HaltsBy polls tally h → RestsOn end polls tally
 rests_on end None polls tally is halts = absurd is

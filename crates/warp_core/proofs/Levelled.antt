@@ -34,28 +34,34 @@ use Rattle.warp_core.proofs.RowLists.{head_or, tail_of}
 -- a journal explains as much where what was done weighs the same and is the same
 pub fits_same : (limit : ℕ) (u w : ServeTold) (jobs : Jobs) → ((f : Entry → ℕ) → own_weight f w.mgr ≡ own_weight f u.mgr) → ((f : NumbersEntry → ℕ) → number_weight f w.mgr ≡ number_weight f u.mgr)
     → w.tallied ≡ u.tallied → w.timed ≡ u.timed → w.book ≡ u.book → Fits limit u jobs → Fits limit w jobs
-fits_same limit u w jobs calls draws tallied timed book fits = record { deeds = fits.deeds; explains = record {
-  calls = λ f of. calls f ∙ fits.explains.calls f of;
-  fired = λ φ. calls (fired_weight φ) ∙ fits.explains.fired φ;
-  all_out = draws (λ e. is_all_out e.call e.reply) ∙ fits.explains.all_out;
-  tallied = tallied ∙ fits.explains.tallied;
-  timed = timed ∙ fits.explains.timed;
-  book = subst (λ (b : BookTold). IsBookOf (all_of (λ (d : Deed). d.acts.handed) fits.deeds) b) (sym book) fits.explains.book;
-  lawful = fits.explains.lawful;
-} }
+fits_same limit u w jobs calls draws tallied timed book fits = record {
+  deeds = fits.deeds;
+  explains = record {
+    calls = λ f of. calls f ∙ fits.explains.calls f of;
+    fired = λ φ. calls (fired_weight φ) ∙ fits.explains.fired φ;
+    all_out = draws (λ e. is_all_out e.call e.reply) ∙ fits.explains.all_out;
+    tallied = tallied ∙ fits.explains.tallied;
+    timed = timed ∙ fits.explains.timed;
+    book = subst (λ (b : BookTold). IsBookOf (all_of (λ (d : Deed). d.acts.handed) fits.deeds) b) (sym book) fits.explains.book;
+    lawful = fits.explains.lawful;
+  };
+}
 
 -- nothing was done
 pub fits_first : (limit : ℕ) (w : ServeTold) → ((f : Entry → ℕ) → own_weight f w.mgr ≡ 0) → ((f : NumbersEntry → ℕ) → number_weight f w.mgr ≡ 0)
     → w.tallied ≡ [] → w.timed ≡ [] → IsBookOf [] w.book → Fits limit w []
-fits_first limit w calls draws tallied timed book = record { deeds = []; explains = record {
-  calls = λ f of. calls f;
-  fired = λ φ. calls (fired_weight φ);
-  all_out = draws (λ e. is_all_out e.call e.reply);
-  tallied = tallied;
-  timed = timed;
-  book = book;
-  lawful = tt;
-} }
+fits_first limit w calls draws tallied timed book = record {
+  deeds = [];
+  explains = record {
+    calls = λ f of. calls f;
+    fired = λ φ. calls (fired_weight φ);
+    all_out = draws (λ e. is_all_out e.call e.reply);
+    tallied = tallied;
+    timed = timed;
+    book = book;
+    lawful = tt;
+  };
+}
 
 halts_cases : (p q : ℕ) (t u : View TallyEntry) (h : Option Halted) → q ≡ p → entries_of u ≡ entries_of t → HaltsBy p t h → HaltsBy q u h
 halts_cases p q t u None polls tally halts = tt

@@ -70,6 +70,7 @@ module _ {A L : Type 0} (known : A → PassView L) where
     where
       tail_saw : (x : A) (xs : List A) (before : Log TallyEntry) → All (λ (v : View TallyEntry). v.seen ≡ before) (map (λ w. (known w).tally) (x ∷ xs)) → All (λ (v : View TallyEntry). v.seen ≡ before) (map (λ w. (known w).tally) xs)
       tail_saw x xs before saw k d lt = saw (suc k) d (omega arith)
+
       all_seen : (xs : List A) (before : Log TallyEntry) → All (λ (v : View TallyEntry). v.seen ≡ before) (map (λ w. (known w).tally) xs) → All (λ (l : Log TallyEntry). length l ≡ length before) (map seen_by (map (λ w. (known w).tally) xs))
       all_seen [] before saw k d lt = absurd (omega arith)
       all_seen (w ∷ ws) before saw zero d lt = ap length (saw 0 (known w).tally (omega arith))
@@ -108,6 +109,7 @@ module _ {A L : Type 0} (known : A → PassView L) (adds : AddsUp A L) (shows : 
     where
       by_sums : (f a t rf rt ra : ℕ) → rf ≡ f → rt ≡ t → ra ≡ a + t → rf + rt ≡ ra → f ≡ a
       by_sums f a t rf rt ra p q r s = omega arith
+
       both : {a b c d : ℕ} → a ≡ b → c ≡ d → a + c ≡ b + d
       both p q = λ k. p k + q k
 
@@ -121,8 +123,8 @@ module _ {A L : Type 0} (known : A → PassView L) (adds : AddsUp A L) (shows : 
       let k : OwnIsKept known (look.after ∷ xs) zs = subst (λ (l : List A). OwnIsKept known l zs) look.left keeps in
       let last = last_log known x look.after xs zs limit counts before saw c k in
       subst (λ (l : List A). IsOver known limit counts l) (sym last.2)
-          (over_at limit counts (known x).tally (known look.after).tally saw last.0 last.1 last.3
-          (subst (All (λ y. IsLawfulPass (known y))) last.2 lawful) (subst (ArePassesLevel known) last.2 after))
+      (over_at limit counts (known x).tally (known look.after).tally saw last.0 last.1 last.3
+      (subst (All (λ y. IsLawfulPass (known y))) last.2 lawful) (subst (ArePassesLevel known) last.2 after))
 
   pub shown_over : (limit : ℕ) (end : Option ServeEnd) (xs ys zs : List A) → ArePassesLevel known xs → HasLooked known limit end xs ys → CameLevel known ys zs → OwnIsKept known ys zs
       → All (λ y. IsLawfulPass (known y)) zs → ArePassesLevel known zs → ShowsOver known limit end zs

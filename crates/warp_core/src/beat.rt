@@ -54,14 +54,7 @@ impl<F: Files> Beats<F> {
 
 /// Asks the clock, and sweeps where that is due, if the dispatcher keeps the beats. It answers the code with which
 /// the dispatcher stops, if it does.
-pub(crate) fn beat<
-    P: Poller,
-    F: Files,
-    C: Clock,
-    B: Book<Finished<P::Link, F>>,
-    G: Gate,
-    R: Wait,
->(
+pub(crate) fn beat<P: Poller, F: Files, C: Clock, B: Book<Finished<P::Link, F>>, G: Gate, R: Wait>(
     rt: &R,
     shared: &Shared<Job<P, F>, F>,
     row: &mut Row<P, F, C, B, G>,
@@ -85,14 +78,7 @@ pub(crate) fn beat<
 
 /// Ends the connections on which nothing happened since the last sweep, and closes each file that nobody uses at
 /// this moment.
-fn clean<
-    P: Poller,
-    F: Files,
-    C: Clock,
-    B: Book<Finished<P::Link, F>>,
-    G: Gate,
-    R: Wait,
->(
+fn clean<P: Poller, F: Files, C: Clock, B: Book<Finished<P::Link, F>>, G: Gate, R: Wait>(
     rt: &R,
     shared: &Shared<Job<P, F>, F>,
     row: &mut Row<P, F, C, B, G>,
@@ -113,14 +99,7 @@ fn clean<
 }
 
 /// Sweeps the watches, and ends the connections whose openings the sweep gave.
-fn sweep<
-    P: Poller,
-    F: Files,
-    C: Clock,
-    B: Book<Finished<P::Link, F>>,
-    G: Gate,
-    R: Wait,
->(
+fn sweep<P: Poller, F: Files, C: Clock, B: Book<Finished<P::Link, F>>, G: Gate, R: Wait>(
     rt: &R,
     shared: &Shared<Job<P, F>, F>,
     row: &mut Row<P, F, C, B, G>,
@@ -130,7 +109,8 @@ fn sweep<
     ensures serves { Serves B.told P.meaning.faults shared.now row.new }
     ensures goes_on { HasGoneOn row.old row.new }
 {
-    row.runner.sweep(rt, &shared.mgr, &mut row.disp.mgr, expired)
+    row.runner
+        .sweep(rt, &shared.mgr, &mut row.disp.mgr, expired)
 }
 
 /// Closes the files that nobody asked for since the last reap.

@@ -18,11 +18,8 @@ mod turns;
 
 // All of them: made, turned until the end, and taken apart.
 mod making;
-mod settling;
 mod serve;
+mod settling;
 
 pub use serve::serve_loop;
 pub use served::{Counts, ServeEnd, Served};
-
-
-

@@ -81,8 +81,19 @@ fn row_of<P: Poller + Drop, F: Files + Drop, C: Drop, B: Drop, G: Drop>(
     ensures book { IfOk result (λ row. row.runner.book ≡ kit.book) }
     ensures plain { IfOk result (λ row. IsPlain (arc_value shared) limit row) }
 {
-    let ServePass { disp, times, cache, tally } = pass;
-    let Kit { poller, files, clock, book, gate } = kit;
+    let ServePass {
+        disp,
+        times,
+        cache,
+        tally,
+    } = pass;
+    let Kit {
+        poller,
+        files,
+        clock,
+        book,
+        gate,
+    } = kit;
     let scratch = Scratch::new(alloc)?;
     let reports = Reports::new(alloc)?;
     Ok(Row {
@@ -120,7 +131,10 @@ pub(crate) struct Parts<P: Poller, F: Files, C, B, G> {
 
 impl<P: Poller + Drop, F: Files + Drop, C: Drop, B: Drop, G: Drop> Parts<P, F, C, B, G> {
     /// Nothing yet, with room for so many dispatchers.
-    pub(crate) fn with_capacity(alloc: Global, count: usize) -> Result<Parts<P, F, C, B, G>, AllocError>
+    pub(crate) fn with_capacity(
+        alloc: Global,
+        count: usize,
+    ) -> Result<Parts<P, F, C, B, G>, AllocError>
         ensures empty { IfOk result (λ parts. (parts.passes.items ≡ []) × (parts.kits.items ≡ [])) }
         ensures room { IfOk result (λ parts. (count ≤ vec_capacity parts.passes) × (count ≤ vec_capacity parts.kits)) }
     {
@@ -145,10 +159,30 @@ impl<P: Poller + Drop, F: Files + Drop, C: Drop, B: Drop, G: Drop> Parts<P, F, C
         for row in rows {
             let Row { disp, runner, .. } = row;
             let ServerRunner {
-                timed, cached, tallied, poller, files, clock, book, gate, back, ..
+                timed,
+                cached,
+                tallied,
+                poller,
+                files,
+                clock,
+                book,
+                gate,
+                back,
+                ..
             } = runner;
-            passes.push_reserved(ServePass { disp, times: timed, cache: cached, tally: tallied });
-            kits.push_reserved(Kit { poller, files, clock, book, gate });
+            passes.push_reserved(ServePass {
+                disp,
+                times: timed,
+                cache: cached,
+                tally: tallied,
+            });
+            kits.push_reserved(Kit {
+                poller,
+                files,
+                clock,
+                book,
+                gate,
+            });
             listener = back.or(listener);
         }
         Parts {

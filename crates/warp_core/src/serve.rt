@@ -75,8 +75,20 @@ where
     let shared = Arc::new(alloc, shared)?;
     let mut rows = rows_of(alloc, &shared, passes, kits, limit, seconds)?;
     let end = listen_and_serve(rt, &shared, rows.as_mut_slice(), listener, limit);
-    let Parts { passes, kits, listener } = parts.fill(rows);
-    Ok(Served { end, shared, passes, kits, listener, limit, seconds })
+    let Parts {
+        passes,
+        kits,
+        listener,
+    } = parts.fill(rows);
+    Ok(Served {
+        end,
+        shared,
+        passes,
+        kits,
+        listener,
+        limit,
+        seconds,
+    })
 }
 
 /// The first dispatcher begins to listen, and then all are turned until the server ended.
@@ -147,7 +159,10 @@ fn listen<P: Poller, F: Files, C: Clock, B: Book<Finished<P::Link, F>>, G: Gate,
 {
     // Nothing has stopped the dispatcher.
     row.halted = None;
-    match row.runner.begin_listening(rt, &shared.mgr, &mut row.disp.mgr, listener) {
+    match row
+        .runner
+        .begin_listening(rt, &shared.mgr, &mut row.disp.mgr, listener)
+    {
         Ok(None) => {}
         Ok(Some(event)) => row.disp.hand.push(event),
         Err(code) => halt(rt, shared, row, halted_with(code)),
@@ -158,7 +173,11 @@ fn listen<P: Poller, F: Files, C: Clock, B: Book<Finished<P::Link, F>>, G: Gate,
 fn halted_with(code: u8) -> Halted
     ensures { result ≡ Halts.PollFault → code ≡ 8 }
 {
-    if code == POLL_FAULT { Halted::PollFault } else { Halted::WithCode(code) }
+    if code == POLL_FAULT {
+        Halted::PollFault
+    } else {
+        Halted::WithCode(code)
+    }
 }
 
 /// Turns all dispatchers until the server ended.

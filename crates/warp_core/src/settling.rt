@@ -56,14 +56,7 @@ pub(crate) fn settle<
 }
 
 /// Brings all passes level, looks at the tally, and brings them level again, so that each has seen the look.
-fn show_over<
-    P: Poller,
-    F: Files,
-    C: Clock,
-    B: Book<Finished<P::Link, F>>,
-    G: Gate,
-    R: Wait,
->(
+fn show_over<P: Poller, F: Files, C: Clock, B: Book<Finished<P::Link, F>>, G: Gate, R: Wait>(
     rt: &R,
     shared: &Shared<Job<P, F>, F>,
     rows: &mut [Row<P, F, C, B, G>],
@@ -90,13 +83,7 @@ fn show_over<
 }
 
 /// Brings the passes of all dispatchers level.
-fn bring_level<
-    P: Poller,
-    F: Files,
-    C: Clock,
-    B: Book<Finished<P::Link, F>>,
-    G: Gate,
->(
+fn bring_level<P: Poller, F: Files, C: Clock, B: Book<Finished<P::Link, F>>, G: Gate>(
     shared: &Shared<Job<P, F>, F>,
     rows: &mut [Row<P, F, C, B, G>],
 )
@@ -115,14 +102,7 @@ fn bring_level<
 }
 
 /// Looks at the tally with the first dispatcher's pass.
-fn look_first<
-    P: Poller,
-    F: Files,
-    C: Clock,
-    B: Book<Finished<P::Link, F>>,
-    G: Gate,
-    R: Wait,
->(
+fn look_first<P: Poller, F: Files, C: Clock, B: Book<Finished<P::Link, F>>, G: Gate, R: Wait>(
     rt: &R,
     shared: &Shared<Job<P, F>, F>,
     rows: &mut [Row<P, F, C, B, G>],
@@ -144,14 +124,7 @@ fn look_first<
 
 /// Whether a look at the tally shows that as many links were accepted as was to be, and that each is finished or
 /// was turned away.
-fn look_for_over<
-    P: Poller,
-    F: Files,
-    C: Clock,
-    B: Book<Finished<P::Link, F>>,
-    G: Gate,
-    R: Wait,
->(
+fn look_for_over<P: Poller, F: Files, C: Clock, B: Book<Finished<P::Link, F>>, G: Gate, R: Wait>(
     rt: &R,
     shared: &Shared<Job<P, F>, F>,
     row: &mut Row<P, F, C, B, G>,
@@ -171,7 +144,11 @@ fn look_for_over<
                 accepted: reply.accepted,
                 turned: reply.turned,
             };
-            if is_over(reply, limit) { Some(ServeEnd::Over(counts)) } else { None }
+            if is_over(reply, limit) {
+                Some(ServeEnd::Over(counts))
+            } else {
+                None
+            }
         }
     }
 }
@@ -180,9 +157,7 @@ fn look_for_over<
 fn is_over(reply: TallyReply, limit: u64) -> bool
     ensures { IsTrue result → (reply.accepted ≡ limit) × (reply.finished + reply.turned ≡ reply.accepted) }
 {
-    reply.accepted == limit
-        && reply.turned <= limit
-        && reply.finished == limit - reply.turned
+    reply.accepted == limit && reply.turned <= limit && reply.finished == limit - reply.turned
 }
 
 /// The end of the first dispatcher that makes no further turn, if there is one.

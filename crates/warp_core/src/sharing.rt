@@ -9,8 +9,7 @@ use warp_jobs::{Gate, Job};
 use warp_passes::{ShareRow, Shared};
 
 impl<P: Poller, F: Files, C: Clock, B: Book<Finished<P::Link, F>>, G: Gate> ShareRow
-    for Row<P, F, C, B, G>
-{
+    for Row<P, F, C, B, G> {
     ghost use Rattle.warp_passes.specs.Cells.{meaning_by};
     ghost use Rattle.warp_core.specs.Rows.{Beside, IsRowOf, beside_of, known_by};
 

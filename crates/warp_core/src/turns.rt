@@ -35,11 +35,7 @@ pub(crate) fn serve_row<
     B: Book<Finished<P::Link, F>>,
     G: Gate,
     R: Wait,
->(
-    rt: &R,
-    shared: &Shared<Job<P, F>, F>,
-    row: &mut Row<P, F, C, B, G>,
-)
+>(rt: &R, shared: &Shared<Job<P, F>, F>, row: &mut Row<P, F, C, B, G>)
     requires { Serves B.told P.meaning.faults shared.now row.old }
     ensures serves { Serves B.told P.meaning.faults shared.now row.new }
     ensures goes_on { HasGoneOn row.old row.new }
@@ -52,14 +48,7 @@ pub(crate) fn serve_row<
 }
 
 /// One round: a beat, a look at the tally, and a turn. It is false where it was the last.
-fn makes_a_round<
-    P: Poller,
-    F: Files,
-    C: Clock,
-    B: Book<Finished<P::Link, F>>,
-    G: Gate,
-    R: Wait,
->(
+fn makes_a_round<P: Poller, F: Files, C: Clock, B: Book<Finished<P::Link, F>>, G: Gate, R: Wait>(
     rt: &R,
     shared: &Shared<Job<P, F>, F>,
     row: &mut Row<P, F, C, B, G>,
@@ -83,14 +72,7 @@ fn makes_a_round<
 }
 
 /// One turn. It is false where it was the last.
-fn goes_on<
-    P: Poller,
-    F: Files,
-    C: Clock,
-    B: Book<Finished<P::Link, F>>,
-    G: Gate,
-    R: Wait,
->(
+fn goes_on<P: Poller, F: Files, C: Clock, B: Book<Finished<P::Link, F>>, G: Gate, R: Wait>(
     rt: &R,
     shared: &Shared<Job<P, F>, F>,
     row: &mut Row<P, F, C, B, G>,
@@ -109,14 +91,7 @@ fn goes_on<
 }
 
 /// One turn. It answers why no further one is made, if so.
-fn turn_once<
-    P: Poller,
-    F: Files,
-    C: Clock,
-    B: Book<Finished<P::Link, F>>,
-    G: Gate,
-    R: Wait,
->(
+fn turn_once<P: Poller, F: Files, C: Clock, B: Book<Finished<P::Link, F>>, G: Gate, R: Wait>(
     rt: &R,
     shared: &Shared<Job<P, F>, F>,
     row: &mut Row<P, F, C, B, G>,
@@ -148,14 +123,7 @@ fn turn_once<
 }
 
 /// The dispatcher makes no further turn. The tally keeps the code if it is the first, so that the others see it.
-pub(crate) fn halt<
-    P: Poller,
-    F: Files,
-    C: Clock,
-    B: Book<Finished<P::Link, F>>,
-    G: Gate,
-    R: Wait,
->(
+pub(crate) fn halt<P: Poller, F: Files, C: Clock, B: Book<Finished<P::Link, F>>, G: Gate, R: Wait>(
     rt: &R,
     shared: &Shared<Job<P, F>, F>,
     row: &mut Row<P, F, C, B, G>,
@@ -182,14 +150,7 @@ pub(crate) fn halt<
 }
 
 /// Looks at the tally.
-fn look<
-    P: Poller,
-    F: Files,
-    C: Clock,
-    B: Book<Finished<P::Link, F>>,
-    G: Gate,
-    R: Wait,
->(
+fn look<P: Poller, F: Files, C: Clock, B: Book<Finished<P::Link, F>>, G: Gate, R: Wait>(
     rt: &R,
     shared: &Shared<Job<P, F>, F>,
     row: &mut Row<P, F, C, B, G>,
@@ -205,7 +166,11 @@ fn look<
         TallyOut::Done(reply) => {
             let all = reply.accepted >= row.runner.limit
                 && reply.accepted == reply.finished.saturating_add(reply.turned);
-            if reply.stop.is_some() || all { Sight::IsOver } else { Sight::GoesOn }
+            if reply.stop.is_some() || all {
+                Sight::IsOver
+            } else {
+                Sight::GoesOn
+            }
         }
     }
 }

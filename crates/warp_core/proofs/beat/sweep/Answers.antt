@@ -11,7 +11,7 @@ returns-clause-serves g c =
     let y = record x { disp = record x.disp { mgr = c.sweep.new.pass }; runner = c.sweep.new.self } in
     let polls = e.stays.1.same_faults in
     serves_on g.B.Book.told g.P.Poller.meaning.faults c.args.shared.now x y c.requires (e.mgr, c.requires.own.passes.disp.1) e.own e.same.0
-        (e.fits [] c.requires.fits) (omega arith) e.stays.0.tallied refl
+    (e.fits [] c.requires.fits) (omega arith) e.stays.0.tallied refl
 
 pub returns-clause-goes_on : goal.returns-clause-goes_on
 returns-clause-goes_on g c =

@@ -51,9 +51,9 @@ returns-clause-serve g c =
     let all : length rows ≡ length c.args.passes.items = omega arith in
     let also : length rows ≡ length c.args.kits.items = omega arith in
     new_serve g.B.Book.told g.P.Poller.meaning.faults (arc_value c.args.shared.now) c.args.limit rows c.args.passes.items c.args.kits.items
-        (all_told (λ p. p) passes_of rows (into_iter_items c.loop-kit.own) c.args.passes.items v.passes all ∙ map-id c.args.passes.items)
-        (all_told (λ k. k.book) (λ r. r.runner.book) rows (into_iter_items c.loop-kit.kit-iterator) c.args.kits.items v.books also)
-        v.plain c.requires.new c.requires.books c.new_passes_did_nothing.ensures
+    (all_told (λ p. p) passes_of rows (into_iter_items c.loop-kit.own) c.args.passes.items v.passes all ∙ map-id c.args.passes.items)
+    (all_told (λ k. k.book) (λ r. r.runner.book) rows (into_iter_items c.loop-kit.kit-iterator) c.args.kits.items v.books also)
+    v.plain c.requires.new c.requires.books c.new_passes_did_nothing.ensures
 
 pub returns-clause-limit : goal.returns-clause-limit
 returns-clause-limit g c = new_limits g.B.Book.told g.P.Poller.meaning.faults (arc_value c.args.shared.now) c.args.limit c.loop-kit.rows.items c.loop-kit.invariant.plain

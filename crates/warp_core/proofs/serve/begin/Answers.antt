@@ -32,4 +32,4 @@ returns-clause-seats g c =
     let x = get_or xs 0 c.index-rows-0.result in
     let y = c.listen.new.row in
     c.grown_passes_hold_the_seats.ensures known_by xs (slice_set xs 0 y)
-        (each_one HasPassGrown known_by pass_same xs 0 x y (slice_get-get_or xs 0 c.index-rows-0.result c.requires.some) c.listen.ensures.goes_on.passes) c.requires.seats
+    (each_one HasPassGrown known_by pass_same xs 0 x y (slice_get-get_or xs 0 c.index-rows-0.result c.requires.some) c.listen.ensures.goes_on.passes) c.requires.seats

@@ -32,7 +32,7 @@ listen_and_serve-end-requires-clause-some g c =
 pub listen_and_serve-end-requires-clause-serve : goal.listen_and_serve-end-requires-clause-serve
 listen_and_serve-end-requires-clause-serve g c = λ κs lives.
     subst (λ s. All (λ row. Serves g.B.Book.told g.P.Poller.meaning.faults s row) c.as_mut_slice.result.now) (sym c.deref.ensures)
-        (subst (All (λ row. Serves g.B.Book.told g.P.Poller.meaning.faults (arc_value c.in_ok-shared-2.shared) row)) (sym c.as_mut_slice.ensures.value) c.in_ok-rows.ensures.serve)
+    (subst (All (λ row. Serves g.B.Book.told g.P.Poller.meaning.faults (arc_value c.in_ok-shared-2.shared) row)) (sym c.as_mut_slice.ensures.value) c.in_ok-rows.ensures.serve)
 
 pub listen_and_serve-end-requires-clause-limit : goal.listen_and_serve-end-requires-clause-limit
 listen_and_serve-end-requires-clause-limit g c = λ κs lives. subst (All (λ row. row.runner.limit ≡ c.args.limit)) (sym c.as_mut_slice.ensures.value) c.in_ok-rows.ensures.limit

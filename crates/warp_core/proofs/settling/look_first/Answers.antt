@@ -26,7 +26,7 @@ returns-clause-seats g c =
     let x = get_or xs 0 c.index-rows-0.result in
     let y = c.look_for_over.new.row in
     c.grown_passes_hold_the_seats.ensures known_by xs (slice_set xs 0 y)
-        (each_one HasPassGrown known_by pass_same xs 0 x y (slice_get-get_or xs 0 c.index-rows-0.result c.requires.some) c.look_for_over.ensures.goes_on.passes) c.requires.seats
+    (each_one HasPassGrown known_by pass_same xs 0 x y (slice_get-get_or xs 0 c.index-rows-0.result c.requires.some) c.look_for_over.ensures.goes_on.passes) c.requires.seats
 
 pub returns-clause-looked : goal.returns-clause-looked
 returns-clause-looked g c = record {

@@ -29,7 +29,7 @@ returns-in-Some-clause-level g c = c.show_over-over.ensures.level
 pub returns-in-Some-clause-ends : goal.returns-in-Some-clause-ends
 returns-in-Some-clause-ends g c =
     ends_halted known_by (λ row. (g.P.Poller.meaning.faults row.runner.poller).polls) (λ row. row.halted) c.args.limit c.in-Some.end c.show_over-over.new.rows
-        (λ k d lt. (c.show_over-over.ensures.serve k d lt).halts) c.in-Some.ensures
+    (λ k d lt. (c.show_over-over.ensures.serve k d lt).halts) c.in-Some.ensures
 
 pub returns-in-None-clause-serve : goal.returns-in-None-clause-serve
 returns-in-None-clause-serve g c = c.show_over-over.ensures.serve

@@ -44,5 +44,5 @@ returns-clause-ends g c =
     let s = c.args.shared.now in
     let zs = c.bring_level-2.new.rows in
     shown_over known_by c.level_passes_add_up.ensures c.replies_show_the_counts.ensures c.full_counts_close_each.ensures c.args.limit c.look_first-over.result
-        c.bring_level.new.rows c.look_first-over.new.rows zs c.bring_level.ensures.level c.look_first-over.ensures.looked c.bring_level-2.ensures.came c.bring_level-2.ensures.keeps
-        (rows_lawful s zs (rows_own g.B.Book.told g.P.Poller.meaning.faults s zs c.bring_level-2.ensures.serve)) c.bring_level-2.ensures.level
+    c.bring_level.new.rows c.look_first-over.new.rows zs c.bring_level.ensures.level c.look_first-over.ensures.looked c.bring_level-2.ensures.came c.bring_level-2.ensures.keeps
+    (rows_lawful s zs (rows_own g.B.Book.told g.P.Poller.meaning.faults s zs c.bring_level-2.ensures.serve)) c.bring_level-2.ensures.level

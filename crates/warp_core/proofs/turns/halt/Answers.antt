@@ -21,7 +21,7 @@ returns-in-PollFault-clause-serves g c =
     let y = record x { runner = c.note_stop.new.self; halted = Some Halts.PollFault } in
     let polls = e.stays.1.same_faults in
     serves_with g.B.Book.told g.P.Poller.meaning.faults c.args.shared.now x y c.requires.serves c.requires.serves.own.passes.disp e.own e.same.0
-        (e.fits (mgr_view x.disp.mgr) [] c.requires.serves.fits) (let was = c.requires.faulted c.in-PollFault.is in omega arith)
+    (e.fits (mgr_view x.disp.mgr) [] c.requires.serves.fits) (let was = c.requires.faulted c.in-PollFault.is in omega arith)
 
 pub returns-in-PollFault-clause-goes_on : goal.returns-in-PollFault-clause-goes_on
 returns-in-PollFault-clause-goes_on g c =
@@ -37,7 +37,7 @@ returns-in-Done-clause-serves g c =
     let y = record x { runner = c.note_stop-in-WithCode.new.self; halted = Some (Halts.WithCode c.in-WithCode.code) } in
     let polls = e.stays.1.same_faults in
     serves_with g.B.Book.told g.P.Poller.meaning.faults c.args.shared.now x y c.requires.serves c.requires.serves.own.passes.disp e.own e.same.0
-        (e.fits (mgr_view x.disp.mgr) [] c.requires.serves.fits) (stop_noted c.in-WithCode.code c.in-Done.field-0 (view_of x.runner.tallied) (view_of c.note_stop-in-WithCode.new.self.tallied) c.in-Done.ensures.called)
+    (e.fits (mgr_view x.disp.mgr) [] c.requires.serves.fits) (stop_noted c.in-WithCode.code c.in-Done.field-0 (view_of x.runner.tallied) (view_of c.note_stop-in-WithCode.new.self.tallied) c.in-Done.ensures.called)
 
 pub returns-in-Done-clause-goes_on : goal.returns-in-Done-clause-goes_on
 returns-in-Done-clause-goes_on g c =
@@ -53,7 +53,7 @@ returns-in-Spent-note_stop-clause-serves g c =
     let y = record x { runner = c.note_stop-in-WithCode.new.self; halted = Some Halts.Spent } in
     let polls = e.stays.1.same_faults in
     serves_with g.B.Book.told g.P.Poller.meaning.faults c.args.shared.now x y c.requires.serves c.requires.serves.own.passes.disp e.own e.same.0
-        (e.fits (mgr_view x.disp.mgr) [] c.requires.serves.fits) tt
+    (e.fits (mgr_view x.disp.mgr) [] c.requires.serves.fits) tt
 
 pub returns-in-Spent-note_stop-clause-goes_on : goal.returns-in-Spent-note_stop-clause-goes_on
 returns-in-Spent-note_stop-clause-goes_on g c =
