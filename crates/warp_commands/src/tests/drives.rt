@@ -1,19 +1,19 @@
 // Whole commands, by the call that the program is: loads that are served in memory, and one connection.
 
-use super::{ASKED, MOMENT, PAGE, ROOM, Scene, USAGE, over_the_site, site, whole};
+use super::{ASKED, MOMENT, PAGE, ROOM, Scene, USAGE, over_the_site, whole};
 use crate::{Host, run};
 use outside::{MemClock, MemFiles, MemSink, PieceLink};
 use std::alloc::{AllocError, Global};
-use std::marker::Brand;
 use std::sync::Wait;
 use std::test::Fail;
 use std::thread::Threads;
 use warp_core::{Counts, ServeEnd};
+use warp_load::{LoadPlace, load_files};
 
 /// What a command is run with here.
-type MemHost = Host<PieceLink, MemFiles<Brand>, MemClock, MemSink, MemSink>;
+type MemHost = Host<PieceLink, MemFiles<LoadPlace>, MemClock, MemSink, MemSink>;
 
-/// Runs these words over the site, with a link that asks for a page and so much room for lines: the status, and the host.
+/// Runs these words over the files of a load, with a link that asks for a page and so much room for lines: the status, and the host.
 fn ran<R: Threads + Wait + Sync>(
     rt: &R,
     alloc: Global,
@@ -26,7 +26,7 @@ fn ran<R: Threads + Wait + Sync>(
     }
     let mut host = Host {
         link: PieceLink::new(alloc, whole(alloc, ASKED)?, Vec::new(alloc), ROOM)?,
-        files: MemFiles::new(alloc, site(alloc)?, true, Vec::new(alloc)),
+        files: MemFiles::new(alloc, load_files(alloc)?, true, Vec::new(alloc)),
         clock: MemClock::new(vec![in alloc; MOMENT]?),
         out: MemSink::new(alloc, room)?,
         errors: MemSink::new(alloc, 300)?,
