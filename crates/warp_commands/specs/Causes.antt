@@ -7,7 +7,7 @@ use Rattle.outside.specs.Moments.{ClockTold}
 use Rattle.outside.specs.declared.files.RootOut.TheVariants.{Present, Absent}
 use Rattle.app_trait.specs.Below.{LiesBelow}
 use Rattle.warp_commands.specs.declared.status.Status.{Status}
-use Rattle.warp_commands.specs.declared.status.Status.TheVariants.{Clean, Cut, Usage, ReadFault, WriteFault, FileFault, NoMemory, NoSuchFolder, PollFault, AcceptFault, Spent, OutFault, NotReady, TurnedAway}
+use Rattle.warp_commands.specs.declared.status.Status.TheVariants.{Clean, Cut, Usage, ReadFault, WriteFault, FileFault, NoMemory, NoSuchFolder, PollFault, AcceptFault, Spent, OutFault, CannotListen, NotReady, TurnedAway}
 use Rattle.warp_commands.specs.Words.{Reading, connection, root_in}
 
 -- one wait was counted, of a read
@@ -36,6 +36,7 @@ WasServed PollFault = ⊥
 WasServed AcceptFault = ⊥
 WasServed Spent = ⊥
 WasServed OutFault = ⊥
+WasServed CannotListen = ⊥
 WasServed NotReady = Unit {0}
 WasServed TurnedAway = ⊥
 
@@ -53,6 +54,7 @@ IsOfConnection PollFault = ⊥
 IsOfConnection AcceptFault = ⊥
 IsOfConnection Spent = ⊥
 IsOfConnection OutFault = ⊥
+IsOfConnection CannotListen = ⊥
 IsOfConnection NotReady = Unit {0}
 IsOfConnection TurnedAway = ⊥
 

@@ -21,7 +21,7 @@ use Rattle.warp_core.specs.declared.served.Served.{Served}
 use Rattle.warp_core.specs.Ends.{EndsSo}
 use Rattle.warp_core.specs.Journals.{AreExplained}
 use Rattle.warp_commands.specs.declared.status.Status.{Status}
-use Rattle.warp_commands.specs.declared.status.Status.TheVariants.{Clean, Cut, Usage, ReadFault, WriteFault, FileFault, NoMemory, NoSuchFolder, PollFault, AcceptFault, Spent, OutFault, NotReady}
+use Rattle.warp_commands.specs.declared.status.Status.TheVariants.{Clean, Cut, Usage, ReadFault, WriteFault, FileFault, NoMemory, NoSuchFolder, PollFault, AcceptFault, Spent, OutFault, CannotListen, NotReady}
 use Rattle.warp_commands.specs.declared.status.Status.TheVariants as Exit
 
 -- a server came to its own end, with these counts
@@ -106,6 +106,7 @@ module _ {P F C G : Type 0} where
   EndsAs Clean end kits = IsOverWith end (λ counts. AreClean counts kits)
   EndsAs Usage end kits = ⊥
   EndsAs NoSuchFolder end kits = ⊥
+  EndsAs CannotListen end kits = ⊥
   EndsAs NotReady end kits = ⊥
 
 -- a line that tells a number
@@ -132,6 +133,7 @@ Prints NoSuchFolder lines out printed = printed ≡ out
 Prints PollFault lines out printed = printed ≡ out
 Prints AcceptFault lines out printed = printed ≡ out
 Prints Spent lines out printed = printed ≡ out
+Prints CannotListen lines out printed = printed ≡ out
 Prints NotReady lines out printed = printed ≡ out
 Prints Exit.TurnedAway lines out printed = printed ≡ out
 

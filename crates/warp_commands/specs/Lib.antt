@@ -2,6 +2,8 @@ pub mod Causes
 pub mod Driven
 pub mod Runs
 pub mod Served
+pub mod ServiceWords
+pub mod Serving
 pub mod Statuses
 pub mod Steps
 pub mod Words

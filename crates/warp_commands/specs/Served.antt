@@ -10,7 +10,7 @@ use Rattle.conn_loop.specs.Ends.{IsCleanEnd, IsCutShort, StepImplies}
 use Rattle.conn_loop.specs.declared.step.Step.TheVariants.{WantRead, WantWrite, Done}
 use Rattle.conn_loop.specs.declared.step.End.TheVariants as End
 use Rattle.warp_commands.specs.declared.status.Status.{Status}
-use Rattle.warp_commands.specs.declared.status.Status.TheVariants.{Clean, Cut, Usage, ReadFault, WriteFault, FileFault, NoMemory, NoSuchFolder, PollFault, AcceptFault, Spent, OutFault, NotReady, TurnedAway}
+use Rattle.warp_commands.specs.declared.status.Status.TheVariants.{Clean, Cut, Usage, ReadFault, WriteFault, FileFault, NoMemory, NoSuchFolder, PollFault, AcceptFault, Spent, OutFault, CannotListen, NotReady, TurnedAway}
 use Rattle.warp_commands.specs.Causes.{WaitsToRead, WaitsToWrite}
 
 -- no byte was read and none was written
@@ -35,6 +35,7 @@ HoldsAt PollFault before later reply moments taken sent ended = ⊥
 HoldsAt AcceptFault before later reply moments taken sent ended = ⊥
 HoldsAt Spent before later reply moments taken sent ended = ⊥
 HoldsAt OutFault before later reply moments taken sent ended = ⊥
+HoldsAt CannotListen before later reply moments taken sent ended = ⊥
 HoldsAt TurnedAway before later reply moments taken sent ended = ⊥
 HoldsAt NotReady before later reply moments taken sent ended =
     (WaitsToRead before later × StepImplies WantRead reply moments taken sent ended)

@@ -3,7 +3,7 @@ use Rattle.std.specs.Prelude.{◌≡◌, ℕ, ◌≤◌, ◌⊎◌, List, [], �
 use Rattle.outside.specs.Counts.{Rises}
 use Rattle.outside.specs.SinkCauses.{SinkTold}
 use Rattle.warp_commands.specs.declared.status.Status.{Status}
-use Rattle.warp_commands.specs.declared.status.Status.TheVariants.{Clean, Cut, Usage, ReadFault, WriteFault, FileFault, NoMemory, NoSuchFolder, PollFault, AcceptFault, Spent, OutFault, NotReady, TurnedAway}
+use Rattle.warp_commands.specs.declared.status.Status.TheVariants.{Clean, Cut, Usage, ReadFault, WriteFault, FileFault, NoMemory, NoSuchFolder, PollFault, AcceptFault, Spent, OutFault, CannotListen, NotReady, TurnedAway}
 
 -- the exit status
 abbrev pub code_of : Status → ℕ
@@ -19,6 +19,7 @@ code_of PollFault = 8
 code_of AcceptFault = 9
 code_of Spent = 10
 code_of OutFault = 11
+code_of CannotListen = 12
 code_of NotReady = 13
 code_of TurnedAway = 14
 
@@ -26,7 +27,7 @@ code_of TurnedAway = 14
 abbrev pub line_of : Status → List ℕ
 line_of Clean = []
 line_of Cut = codes "input cut short\n"
-line_of Usage = codes "usage: warp_serve connection ROOT | drive SEED CONNECTIONS REQUESTS DISPATCHERS\n"
+line_of Usage = codes "usage: warp_serve connection ROOT | serve ROOT ADDR PORT DISPATCHERS CONNECTIONS SECONDS | drive SEED CONNECTIONS REQUESTS DISPATCHERS\n"
 line_of ReadFault = codes "read fault\n"
 line_of WriteFault = codes "write fault\n"
 line_of FileFault = codes "file fault\n"
@@ -36,6 +37,7 @@ line_of PollFault = codes "poll fault\n"
 line_of AcceptFault = codes "accept fault\n"
 line_of Spent = codes "numbers used up\n"
 line_of OutFault = []
+line_of CannotListen = codes "cannot listen\n"
 line_of NotReady = codes "not ready\n"
 line_of TurnedAway = codes "turned away\n"
 

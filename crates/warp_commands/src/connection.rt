@@ -74,7 +74,7 @@ fn carried_out<L: Link, F: Files, C: Clock>(
     nothing_is_open();
     match command_of(words) {
         Ok(Command::Connection { root }) => serve_one(alloc, root, link, files, clock),
-        Ok(Command::Drive { .. }) | Err(Usage) => Status::Usage,
+        Ok(Command::Serve { .. } | Command::Drive { .. }) | Err(Usage) => Status::Usage,
     }
 }
 

@@ -6,6 +6,7 @@
 
 // What the words mean, and what a status is.
 mod command;
+mod service;
 mod status;
 
 // One connection, served.
@@ -16,6 +17,9 @@ mod load_run;
 mod printing;
 mod summary;
 
+// Whoever connects, served.
+mod serving;
+
 // The call that a program is.
 mod program;
 
@@ -23,6 +27,8 @@ pub use command::{Command, Usage, command_of};
 pub use connection::run_connection;
 pub use load_run::Driven;
 pub use program::{Host, run};
+pub use service::Service;
+pub use serving::ServedBy;
 pub use status::{Status, refuse};
 
 #[cfg(test)]

@@ -1,4 +1,4 @@
-//! The lines of a load that was served.
+//! The lines of a server.
 ghost use Rattle.std.specs.Prelude.{◌++◌, decimal};
 ghost use Rattle.outside.specs.SinkCauses.{Puts};
 ghost use Rattle.warp_commands.specs.Driven.{load_lines, number_line};
@@ -25,7 +25,7 @@ pub(crate) fn print_lines<O: Sink>(
 }
 
 /// Prints a line that tells a number.
-fn print_line<O: Sink>(out: &mut O, name: &str, number: u128) -> SinkOut
+pub(crate) fn print_line<O: Sink>(out: &mut O, name: &str, number: u128) -> SinkOut
     ensures { Puts result (number_line name.now number) (O.told out.old) (O.told out.new) }
 {
     if let SinkOut::Failed = print_number(out, name, number) {

@@ -11,24 +11,29 @@ use crate::command::{Command, Usage, command_of};
 use crate::connection::serve_one;
 use crate::load_run::{Driven, served_load};
 use crate::printing::print_lines;
+use crate::serving::{ServedBy, serve};
 use crate::status::{Status, tell};
 use crate::summary::{bytes_of, requests_of, status_of};
 use outside::{Clock, Files, Link, Sink, SinkOut};
+use poller::Poller;
 use std::alloc::Global;
 use std::sync::Wait;
 use std::thread::Threads;
 use warp_core::ServeEnd;
+use warp_front::Front;
 use warp_load::Load;
 
 /// What a command works on: the one link, with files and a clock, that `connection` serves; where lines and errors go;
-/// and what `drive` leaves of the load that it served.
+/// what `serve` begins with and leaves; and what `drive` leaves of the load that it served.
 #[derive(Drop)]
-pub struct Host<L, F, C, O, E> {
+pub struct Host<L, F, C, O, E, N: Front> {
     pub link: L,
     pub files: F,
     pub clock: C,
     pub out: O,
     pub errors: E,
+    pub front: N,
+    pub served: Option<ServedBy<N>>,
     pub driven: Option<Driven>,
 }
 
@@ -36,12 +41,16 @@ pub struct Host<L, F, C, O, E> {
 ///
 /// The words are those of the command line without the program's name. The link is handed in unused, and nothing was driven.
 /// The status's line goes to the stream for errors, whose faults change no status.
-pub fn run<L: Link, F: Files, C: Clock, O: Sink, E: Sink, R: Threads + Wait + Sync>(
+pub fn run<L: Link, F: Files, C: Clock, O: Sink, E: Sink, N: Front, R: Threads + Wait + Sync>(
     rt: &R,
     alloc: Global,
     words: &[String],
-    host: &mut Host<L, F, C, O, E>,
+    host: &mut Host<L, F, C, O, E, N>,
 ) -> u8
+where
+    <N::Poller as Poller>::Link: Send,
+    <N::Poller as Poller>::Listener: Send,
+    <N::Files as Files>::File: Send,
     requires fresh { IsFresh (L.told host.old.link) }
     requires undriven { host.old.driven ≡ None }
 
@@ -60,12 +69,16 @@ pub fn run<L: Link, F: Files, C: Clock, O: Sink, E: Sink, R: Threads + Wait + Sy
 }
 
 /// Carries out the command that the words name.
-fn carried_out<L: Link, F: Files, C: Clock, O: Sink, E, R: Threads + Wait + Sync>(
+fn carried_out<L: Link, F: Files, C: Clock, O: Sink, E, N: Front, R: Threads + Wait + Sync>(
     rt: &R,
     alloc: Global,
     words: &[String],
-    host: &mut Host<L, F, C, O, E>,
+    host: &mut Host<L, F, C, O, E, N>,
 ) -> Status
+where
+    <N::Poller as Poller>::Link: Send,
+    <N::Poller as Poller>::Listener: Send,
+    <N::Files as Files>::File: Send,
     requires fresh { IsFresh (L.told host.old.link) }
     requires undriven { host.old.driven ≡ None }
     ensures runs { Runs F.folder (words_read (map string_bytes words.now)) result
@@ -82,6 +95,16 @@ fn carried_out<L: Link, F: Files, C: Clock, O: Sink, E, R: Threads + Wait + Sync
             &mut host.link,
             &mut host.files,
             &mut host.clock,
+        ),
+        Ok(Command::Serve { root, service }) => serve(
+            rt,
+            alloc,
+            root,
+            service,
+            &mut host.files,
+            &mut host.out,
+            &mut host.front,
+            &mut host.served,
         ),
         Ok(Command::Drive { load, dispatchers }) => drive(
             rt,

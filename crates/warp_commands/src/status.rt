@@ -31,14 +31,15 @@ pub enum Status {
     Spent = 10,
     /// The output failed.
     OutFault = 11,
+    /// The front failed to listen, or to make what dispatchers work with.
+    CannotListen = 12,
     /// The link wasn't ready, and nothing here waits for it.
     NotReady = 13,
     /// A connection was turned away, or timed out.
     TurnedAway = 14,
 }
 
-const USAGE: &str =
-    "usage: warp_serve connection ROOT | drive SEED CONNECTIONS REQUESTS DISPATCHERS\n";
+const USAGE: &str = "usage: warp_serve connection ROOT | serve ROOT ADDR PORT DISPATCHERS CONNECTIONS SECONDS | drive SEED CONNECTIONS REQUESTS DISPATCHERS\n";
 
 impl Status {
     /// The exit status.
@@ -65,6 +66,7 @@ impl Status {
             Status::AcceptFault => "accept fault\n",
             Status::Spent => "numbers used up\n",
             Status::OutFault => "",
+            Status::CannotListen => "cannot listen\n",
             Status::NotReady => "not ready\n",
             Status::TurnedAway => "turned away\n",
         }

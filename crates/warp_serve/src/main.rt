@@ -4,6 +4,7 @@
 #![tactic(auto)]
 
 use outside::{OsClock, OsFiles, StdLink, StdSink};
+use sock_front::SockFront;
 use std::env;
 use std::io::ErrorKind;
 use std::process::ExitCode;
@@ -16,6 +17,8 @@ fn main(rt: HostRuntime) -> ExitCode {
         clock: OsClock::new(&rt),
         out: StdSink::new(rt.stdout()),
         errors: StdSink::new(rt.stderr()),
+        front: SockFront::new(&rt, rt.alloc()),
+        served: None,
         driven: None,
     };
     let code = match words_of(&rt) {

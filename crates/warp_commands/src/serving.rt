@@ -1,0 +1,126 @@
+//! A server over a front: whoever connects is served from a folder.
+ghost use Rattle.std.specs.Prelude.{◌≡◌, ◌≤◌, None, [], All, IfErr, IfOk, IfSome, length};
+ghost use Rattle.outside.specs.declared.files.RootOut.TheVariants as Roots;
+ghost use Rattle.outside.specs.FileCauses.{AskedRoot};
+ghost use Rattle.outside.specs.SinkCauses.{SinkTold};
+ghost use Rattle.warp_books.specs.Books.{IsBookOf};
+ghost use Rattle.warp_commands.specs.ServiceWords.{IsService, service_shown};
+ghost use Rattle.warp_commands.specs.Serving.{EndsServing, HasListened, HasServed, PrintsServing, RefusesToServe, ServesFolder, ServingTold};
+
+use crate::printing::print_line;
+use crate::service::Service;
+use crate::status::Status;
+use outside::{Files, Listener, RootOut, Sink, SinkOut};
+use poller::Poller;
+use std::alloc::Global;
+use std::sync::Wait;
+use std::thread::Threads;
+use warp_core::{ServeEnd, Served, serve_loop};
+use warp_front::{Front, KitsOut, ListenOut};
+use warp_jobs::Kit;
+
+/// The line that says that a server listens.
+const LISTENING: &[u8] = b"listening\n";
+
+/// What a server over a front leaves.
+pub type ServedBy<N> = Served<
+    <N as Front>::Poller,
+    <N as Front>::Files,
+    <N as Front>::Clock,
+    <N as Front>::Book,
+    <N as Front>::Gate,
+>;
+
+/// What a server begins with: its listener, and the kit of each dispatcher.
+type Begun<N> = (
+    <<N as Front>::Poller as Poller>::Listener,
+    Vec<
+        Kit<
+            <N as Front>::Poller,
+            <N as Front>::Files,
+            <N as Front>::Clock,
+            <N as Front>::Book,
+            <N as Front>::Gate,
+        >,
+    >,
+);
+
+/// Serves a folder to whoever connects, and leaves what its server left. A line says that it listens, and at its own end
+/// another one how many links it accepted.
+pub(crate) fn serve<F: Files, O: Sink, N: Front, R: Threads + Wait + Sync>(
+    rt: &R,
+    alloc: Global,
+    root: &str,
+    service: Service,
+    files: &mut F,
+    out: &mut O,
+    front: &mut N,
+    served: &mut Option<ServedBy<N>>,
+) -> Status
+where
+    <N::Poller as Poller>::Link: Send,
+    <N::Poller as Poller>::Listener: Send,
+    <N::Files as Files>::File: Send,
+{
+    let (listener, kits) = match begin(root, service, files, front) {
+        Ok(begun) => begun,
+        Err(status) => return status,
+    };
+    if let SinkOut::Failed = out.put(LISTENING) {
+        return Status::OutFault;
+    }
+    let Ok(left) = serve_loop(
+        rt,
+        alloc,
+        listener,
+        kits,
+        service.connections,
+        service.seconds,
+    ) else {
+        return Status::NoMemory;
+    };
+    let status = told(left.end, out);
+    *served = Some(left);
+    status
+}
+
+/// Asks for the root, listens, and makes the kits.
+fn begin<F: Files, N: Front>(
+    root: &str,
+    service: Service,
+    files: &mut F,
+    front: &mut N,
+) -> Result<Begun<N>, Status> {
+    match files.root(root) {
+        RootOut::Present => {}
+        RootOut::Absent => return Err(Status::NoSuchFolder),
+        RootOut::Failed => return Err(Status::FileFault),
+        RootOut::NoMemory => return Err(Status::NoMemory),
+    }
+    let listener = match front.listen(service.address, service.port) {
+        ListenOut::Listening(listener) => listener,
+        ListenOut::Failed => return Err(Status::CannotListen),
+        ListenOut::NoMemory => return Err(Status::NoMemory),
+    };
+    match front.kits(root, service.dispatchers as usize) {
+        KitsOut::Made(kits) => Ok((listener, kits)),
+        KitsOut::Failed => Err(Status::CannotListen),
+        KitsOut::NoMemory => Err(Status::NoMemory),
+    }
+}
+
+/// The status of a server that was begun. At its own end it says how many links it accepted.
+fn told<O: Sink>(end: ServeEnd, out: &mut O) -> Status {
+    match end {
+        ServeEnd::Over(counts) => {
+            match print_line(out, "connections ", counts.accepted as u128) {
+                SinkOut::Stored => Status::Clean,
+                SinkOut::Failed => Status::OutFault,
+            }
+        }
+        ServeEnd::PollFault => Status::PollFault,
+        ServeEnd::AcceptFault => Status::AcceptFault,
+        ServeEnd::Spent => Status::Spent,
+        ServeEnd::NoMemory => Status::NoMemory,
+    }
+}
