@@ -7,6 +7,7 @@ mod bodies;
 mod cuts;
 mod drives;
 mod files;
+mod no_front;
 
 use crate::run_connection;
 use outside::{MemClock, MemFile, MemFiles, MemSink, PieceLink, Place, ReadEvent, WriteEvent};
