@@ -12,10 +12,10 @@ use warp_core::{Counts, ServeEnd};
 use warp_load::{LoadPlace, load_files};
 
 /// What a command is run with here.
-type MemHost = Host<PieceLink, MemFiles<LoadPlace>, MemClock, MemSink, MemSink, NoFront>;
+pub(super) type MemHost = Host<PieceLink, MemFiles<LoadPlace>, MemClock, MemSink, MemSink, NoFront>;
 
 /// Runs these words over the files of a load, with a link that asks for a page and so much room for lines: the status, and the host.
-fn ran<R: Threads + Wait + Sync>(
+pub(super) fn ran<R: Threads + Wait + Sync>(
     rt: &R,
     alloc: Global,
     words: &[&str],
