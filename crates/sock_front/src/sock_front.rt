@@ -100,8 +100,6 @@ where
 
     type Clock = OsClock<'a, R>;
 
-    type Book = SumBook;
-
     type Gate = FreeGate;
 
     ghost use Rattle.sock_front.specs.SockFronts.{told_of};
