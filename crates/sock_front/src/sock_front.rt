@@ -52,7 +52,7 @@ impl<'a, R> SockFront<'a, R> {
     }
 }
 
-impl<'a, R: Net + rt::Files + rt::Clock + Sync> SockFront<'a, R>
+impl<'a, R: Net + rt::Files + rt::Clock> SockFront<'a, R>
 where
     R::File: FileExt,
 {
