@@ -1,4 +1,5 @@
 pub mod Apart
+pub mod Caused
 pub mod Filling
 pub mod Halting
 pub mod Levelled
