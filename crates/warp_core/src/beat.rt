@@ -1,7 +1,12 @@
 //! The beat of a server: from time to time connections on which nothing happens are ended, and open files that
 //! nobody asks for are closed.
-ghost use Rattle.std.specs.Prelude.{IfSome};
+ghost use Rattle.std.specs.Prelude.{◌≡◌, IfSome, None};
+ghost use Rattle.turn_cell.specs.Calls.{view_of};
+ghost use Rattle.timeout_mgr.specs.Calls.{view_of as seen_of};
+ghost use Rattle.timeout_mgr.specs.Passes.{calls_of};
 ghost use Rattle.poller.specs.Faults.{PollerFaults};
+ghost use Rattle.warp_runner.specs.Sweeps.{HasSweptOnce};
+ghost use Rattle.warp_core.specs.Beats.{HasBeat, HasCleaned, HasReaped, HasReapedTwice, IsDueAt};
 ghost use Rattle.warp_core.specs.Rows.{HasGoneOn, MayHalt, Serves};
 
 use crate::row::{Halted, Row};
@@ -39,7 +44,10 @@ impl<F: Files> Beats<F> {
 
     /// Whether a sweep is due at this moment, which then is the moment of the last one. At the first moment none
     /// is.
-    fn is_due(&mut self, now: u64) -> bool {
+    fn is_due(&mut self, now: u64) -> bool
+        ensures due { IsDueAt self.old.seconds self.old.last now result self.new.last }
+        ensures seconds { self.new.seconds ≡ self.old.seconds }
+    {
         let Some(last) = self.last else {
             self.last = Some(now);
             return false;
@@ -63,6 +71,7 @@ pub(crate) fn beat<P: Poller, F: Files, C: Clock, B: Book<Finished<P::Link, F>>,
     ensures serves { Serves B.told P.meaning.faults shared.now row.new }
     ensures goes_on { HasGoneOn row.old row.new }
     ensures may_halt { IfSome result (λ halted. MayHalt B.told P.meaning.faults row.new halted) }
+    ensures beat { HasBeat C.told row.old.beats row.old result row.new }
 {
     let Some(mut beats) = row.beats.take() else {
         return None;
@@ -89,6 +98,8 @@ fn clean<P: Poller, F: Files, C: Clock, B: Book<Finished<P::Link, F>>, G: Gate, 
     ensures serves { Serves B.told P.meaning.faults shared.now row.new }
     ensures goes_on { HasGoneOn row.old row.new }
     ensures may_halt { IfSome result.0 (λ halted. MayHalt B.told P.meaning.faults row.new halted) }
+    ensures cleaned { HasCleaned row.old result.0 row.new }
+    ensures keeps { (result.1.seconds ≡ beats.seconds) × (result.1.last ≡ beats.last) }
 {
     let Beats {
         seconds,
@@ -130,6 +141,7 @@ fn sweep<P: Poller, F: Files, C: Clock, B: Book<Finished<P::Link, F>>, G: Gate, 
     ensures serves { Serves B.told P.meaning.faults shared.now row.new }
     ensures goes_on { HasGoneOn row.old row.new }
     ensures may_halt { IfSome result (λ halted. MayHalt B.told P.meaning.faults row.new halted) }
+    ensures swept { HasSweptOnce (calls_of (seen_of row.old.runner.timed)) (calls_of (seen_of row.new.runner.timed)) }
 {
     match row
         .runner
@@ -153,6 +165,8 @@ fn reap_twice<P: Poller, F: Files, C: Clock, B: Book<Finished<P::Link, F>>, G: G
     ensures serves { Serves B.told P.meaning.faults shared.now row.new }
     ensures goes_on { HasGoneOn row.old row.new }
     ensures may_halt { IfSome result.0 (λ halted. MayHalt B.told P.meaning.faults row.new halted) }
+    ensures timed { row.new.runner.timed ≡ row.old.runner.timed }
+    ensures reaped { result.0 ≡ None → HasReapedTwice (view_of row.old.runner.cached) (view_of row.new.runner.cached) }
 {
     let (halted, basket) = reap(rt, shared, row, basket);
     match halted {
@@ -172,6 +186,8 @@ fn reap<P: Poller, F: Files, C: Clock, B: Book<Finished<P::Link, F>>, G: Gate, R
     ensures serves { Serves B.told P.meaning.faults shared.now row.new }
     ensures goes_on { HasGoneOn row.old row.new }
     ensures may_halt { IfSome result.0 (λ halted. MayHalt B.told P.meaning.faults row.new halted) }
+    ensures timed { row.new.runner.timed ≡ row.old.runner.timed }
+    ensures reaped { result.0 ≡ None → HasReaped (view_of row.old.runner.cached) (view_of row.new.runner.cached) }
 {
     let mut basket = basket;
     // It is empty, which the proof wants to see.

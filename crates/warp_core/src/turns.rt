@@ -1,6 +1,7 @@
 //! The turns of a dispatcher, until all is served or one of them stops.
 ghost use Rattle.std.specs.Prelude.{IfSome};
 ghost use Rattle.poller.specs.Faults.{PollerFaults};
+ghost use Rattle.warp_core.specs.Beats.{BeginsWithBeat};
 ghost use Rattle.warp_core.specs.Rows.{HasGoneOn, MayHalt, Serves};
 
 use crate::beat::beat;
@@ -55,6 +56,7 @@ fn makes_a_round<P: Poller, F: Files, C: Clock, B: Book<Finished<P::Link, F>>, G
     requires { Serves B.told P.meaning.faults shared.now row.old }
     ensures serves { Serves B.told P.meaning.faults shared.now row.new }
     ensures goes_on { HasGoneOn row.old row.new }
+    ensures beats { BeginsWithBeat C.told row.old row.new }
 {
     if let Some(halted) = beat(rt, shared, row) {
         halt(rt, shared, row, halted);

@@ -9,3 +9,6 @@ returns-in-Some-clause-serves g c = c.sweep.ensures.serves
 
 pub returns-in-Some-clause-goes_on : goal.returns-in-Some-clause-goes_on
 returns-in-Some-clause-goes_on g c = c.sweep.ensures.goes_on
+
+pub returns-in-Some-clause-cleaned : goal.returns-in-Some-clause-cleaned
+returns-in-Some-clause-cleaned g c = record { swept = c.sweep.ensures.swept; reaped = λ is. absurd (cc) }

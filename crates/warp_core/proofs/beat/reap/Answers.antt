@@ -46,3 +46,9 @@ returns-in-Spent-clause-serves g c =
 
 pub returns-in-Spent-clause-may_halt : goal.returns-in-Spent-clause-may_halt
 returns-in-Spent-clause-may_halt g c = record { stops = forget c.requires.fits; faulted = λ is. absurd (cc) }
+
+pub returns-in-Reaped-clause-reaped : goal.returns-in-Reaped-clause-reaped
+returns-in-Reaped-clause-reaped g c = λ is. (c.in-Reaped.ensures.cached.did.0, c.reap_once-out.ensures.cached.adds.own ∙ ap (λ l. entries_of (view_of c.args.row.now.runner.cached) ++ l) c.in-Reaped.ensures.cached.did.1)
+
+pub returns-in-Spent-clause-reaped : goal.returns-in-Spent-clause-reaped
+returns-in-Spent-clause-reaped g c = λ is. absurd (cc)

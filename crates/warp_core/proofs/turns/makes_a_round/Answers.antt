@@ -48,3 +48,15 @@ returns-in-Spent-clause-serves g c = c.halt-in-Spent.ensures.serves
 pub returns-in-Spent-clause-goes_on : goal.returns-in-Spent-clause-goes_on
 returns-in-Spent-clause-goes_on g c = goes_then c.args.row.now c.beat.new.row c.halt-in-Spent.new.row c.beat.ensures.goes_on
     (goes_then c.beat.new.row c.look.new.row c.halt-in-Spent.new.row c.look.ensures.goes_on c.halt-in-Spent.ensures.goes_on)
+
+pub returns-in-Some-clause-beats : goal.returns-in-Some-clause-beats
+returns-in-Some-clause-beats g c = (c.beat.result, c.beat.new.row, c.beat.ensures.beat, c.halt.ensures.goes_on)
+
+pub returns-in-GoesOn-clause-beats : goal.returns-in-GoesOn-clause-beats
+returns-in-GoesOn-clause-beats g c = (c.beat.result, c.beat.new.row, c.beat.ensures.beat, goes_then c.beat.new.row c.look.new.row c.goes_on.new.row c.look.ensures.goes_on c.goes_on.ensures.goes_on)
+
+pub returns-in-IsOver-clause-beats : goal.returns-in-IsOver-clause-beats
+returns-in-IsOver-clause-beats g c = (c.beat.result, c.beat.new.row, c.beat.ensures.beat, c.look.ensures.goes_on)
+
+pub returns-in-Spent-clause-beats : goal.returns-in-Spent-clause-beats
+returns-in-Spent-clause-beats g c = (c.beat.result, c.beat.new.row, c.beat.ensures.beat, goes_then c.beat.new.row c.look.new.row c.halt-in-Spent.new.row c.look.ensures.goes_on c.halt-in-Spent.ensures.goes_on)
