@@ -10,4 +10,4 @@ mod AcceptLemmas
 mod Running
 mod TimingOut
 pub mod Stopping
-mod Sweeping
+mod SweptOnce

@@ -207,11 +207,11 @@ module _ (limit : ℕ) (d : Deed) (f : Firing) (ran : d.job ≡ f ∷ []) where
 
   run_broken : IsRun limit f d.acts d.stopped → d.stopped ≡ Some accept_fault → IsBroken d
   run_broken (inl p) stops = not_spent accept_fault d.stopped (connection_only p.0 f.1.marks d.acts d.stopped p.2) stops (λ e. absurd (omega arith))
-  run_broken (inr p) stops = listener_broken p.0 p.2 p.1 p.3 f.1.marks p.4 stops
+  run_broken (inr p) stops = listener_broken p.0 p.2.0 p.1 p.2.1 f.1.marks p.2.2 stops
 
   run_starved : IsRun limit f d.acts d.stopped → d.stopped ≡ Some no_memory → IsStarved d
   run_starved (inl p) stops = not_spent no_memory d.stopped (connection_only p.0 f.1.marks d.acts d.stopped p.2) stops (λ e. absurd (omega arith))
-  run_starved (inr p) stops = listener_starved p.0 p.2 p.1 p.3 f.1.marks p.4 stops
+  run_starved (inr p) stops = listener_starved p.0 p.2.0 p.1 p.2.1 f.1.marks p.2.2 stops
 
 -- a deed that stops with the code of accepts that failed is a run of the listener, after which 1,000 in a row have
 pub deed_broken : (limit : ℕ) (d : Deed) → IsDeed limit d → d.stopped ≡ Some accept_fault → IsBroken d

@@ -155,10 +155,12 @@ stops_last (Some code) ds d is = has_last (λ e. e.stopped ≡ Some code) ds d i
 module _ (limit : ℕ) (u w : ServeTold) (d : Deed) (events : List EventName) (rest : Jobs) where
   -- the dispatcher stops as before one deed more
   pub until_then : (stop : Option ℕ) → Did u d.acts events w → IsDeed limit d → FitsUntil limit stop u (d.job ++ rest) → FitsUntil limit stop w rest
+  unfolding fits_then
   until_then stop did is fits = (fits_then limit u w d events rest did is fits.0, stops_more stop fits.0.deeds d fits.1)
 
   -- the dispatcher stops with that deed
   pub until_last : Did u d.acts events w → IsDeed limit d → Fits limit u (d.job ++ rest) → FitsUntil limit d.stopped w rest
+  unfolding fits_then
   until_last did is fits = (fits_then limit u w d events rest did is fits, stops_last d.stopped fits.deeds d refl)
 
 pub same_trans : {A : Type 0} (a b c : A) → b ≡ a → c ≡ b → c ≡ a
