@@ -91,7 +91,7 @@ module _ {P F C B G L I X : Type 0} {H : Ghosts F X} (told : B → BookTold) (fa
   did_at Is (row ∷ rows) (kit ∷ kits) same zero one lt at did =
       let book : kit.book ≡ row.runner.book = ap (head_or kit.book) same in
       inl (subst (λ (b : B). DidOne limit Is (record (told_by told row) { book = told b })) (sym book)
-          (subst (λ (r : Row P F C B G L I X H). DidOne limit Is (told_by told r)) (sym at) did))
+      (subst (λ (r : Row P F C B G L I X H). DidOne limit Is (told_by told r)) (sym at) did))
   did_at Is (row ∷ rows) (kit ∷ kits) same (suc k) one lt at did = inr (did_at Is rows kits (ap tail_of same) k one (omega arith) at did)
 
   pub caused_apart : (end : ServeEnd) (rows : List (Row P F C B G L I X H)) (passes : List (ServePass (Job P F L I X) F X H)) (kits : List (Kit P F C B G)) → HasParts rows passes kits
