@@ -134,7 +134,7 @@ entering_as : (o : Opening) (link : LinkTold) (acts : Acts) (stopped : Option �
 entering_as o link acts stopped (inl p) = bare_only _ acts stopped p.2
 entering_as o link acts stopped (inr (inl p)) = bare_only _ p.0 stopped p.2
 entering_as o link acts stopped (inr (inr (inl p))) = ending_only _ _ p.1 stopped p.3
-entering_as o link acts stopped (inr (inr (inr p))) = registering_only _ _ _ p.1 stopped p.3
+entering_as o link acts stopped (inr (inr (inr p))) = registering_only (first_held o link p.0) Dirs.Read None p.1 stopped p.3
 
 entering_only : (o : Opening) (acts : Acts) (stopped : Option ℕ) → IsEntering o acts stopped → OnlySpent stopped
 entering_only o acts stopped p = entering_as o p.0 acts stopped p.1
@@ -172,7 +172,7 @@ abbrev StartStops : Option ℕ → Type 0
 StartStops stopped = (code : ℕ) → stopped ≡ Some code → (code ≡ spent) ⊎ (code ≡ poll_fault) ⊎ (code ≡ no_memory)
 
 starting_at : (o : Opening) (listener : ListenerTold) (acts : Acts) (stopped : Option ℕ) → IsStartingAt o listener acts stopped → StartStops stopped
-starting_at o listener acts stopped (inl p) = λ code stops. inl (listening_only _ None acts stopped p code stops)
+starting_at o listener acts stopped (inl p) = λ code stops. inl (listening_only (record { opening = o; listener = listener; accepted = 0 }) None acts stopped p code stops)
 starting_at o listener acts stopped (inr p) = λ code stops. inr (subst (λ (n : ℕ). IsStartFault n) (same_Some p.1 code (sym p.3 ∙ stops)) p.2)
 
 starting_stops : (listener : ListenerTold) (acts : Acts) (stopped : Option ℕ) → IsStarting listener acts stopped → StartStops stopped
