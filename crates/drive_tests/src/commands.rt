@@ -1,11 +1,14 @@
 // Loads by the call that the program is: any number of dispatchers adds up to the same.
 
 use outside::{MemClock, MemFiles, MemSink, PieceLink};
+use poller::MemPoller;
 use std::alloc::{AllocError, Global};
 use std::sync::Wait;
 use std::test::Fail;
 use std::thread::Threads;
 use warp_commands::{Host, run};
+use warp_front::NoFront;
+use warp_jobs::FreeGate;
 use warp_load::{LOAD_MOMENT, Load, LoadPlace, Sums, expected, load_files};
 
 /// Runs `drive 7 200 20` with so many dispatchers: the status, and what was printed.
@@ -24,6 +27,8 @@ fn driven<R: Threads + Wait + Sync>(
         clock: MemClock::new(vec![in alloc; LOAD_MOMENT]?),
         out: MemSink::new(alloc, 100)?,
         errors: MemSink::new(alloc, 300)?,
+        front: NoFront::<MemPoller, MemFiles<LoadPlace>, MemClock, FreeGate>::new(),
+        served: None,
         driven: None,
     };
     let status = run(rt, alloc, &words, &mut host);

@@ -10,7 +10,7 @@ use Rattle.warp_commands.specs.ServiceWords.{dot_split, parts_shown}
 -- two parts stand round the first dot, and there are none where a word has no dot
 pub parted_at : (word : List ℕ) (r : Option (Bor (List ℕ) × Bor (List ℕ)))
     → MatchOption r (position_or_len (λ b. b == 46) word ≡ length word)
-        (λ x. (position_or_len (λ b. b == 46) word < length word) × (x.0.now ≡ before_first (λ b. b == 46) word) × (x.1.now ≡ after_first (λ b. b == 46) word))
+    (λ x. (position_or_len (λ b. b == 46) word < length word) × (x.0.now ≡ before_first (λ b. b == 46) word) × (x.1.now ≡ after_first (λ b. b == 46) word))
     → parts_shown r ≡ dot_split word
 parted_at word None is = grind (arith, nat_tests)
 parted_at word (Some x) is = grind (arith, nat_tests)
