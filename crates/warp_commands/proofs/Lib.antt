@@ -3,4 +3,5 @@ mod BroughtLemmas
 mod CauseLemmas
 mod DrivenLemmas
 mod PrintLemmas
+mod ServingLemmas
 mod WordLemmas
