@@ -557,21 +557,29 @@ def check_held(checks, program, site):
 
 
 def check_few_descriptors(checks, program, site):
-    """Where the process may have few descriptors, those who are connected are served, and others later."""
-    with Server(program, site.top, 400, seconds=30, descriptors=60) as server:
-        with Stream(server.port) as first:
-            checks.equal("a connection", first.ask("/a.txt")[0], OK)
-            crowd = [connect(server.port) for _ in range(100)]
-            time.sleep(0.3)
-            for name, content in site.files.items():
-                status, _, got = first.ask("/" + name)
-                checks.equal(f"/{name} on a connection that is there, with no descriptor left", (status in (OK, 503, 500, NOT_FOUND), got in (content, b"")), (True, True))
-            checks.equal("a file that is open, with no descriptor left", first.ask("/a.txt")[::2], (OK, site.files["a.txt"]))
+    """Where the process may have few descriptors, those who are connected are served, some are turned away, and others come later."""
+    most, crowd = 60, []
+    with Server(program, site.top, 400, descriptors=most) as server:
+        with Stream(server.port) as first, Stream(server.port) as second:
+            for stream in (first, second):
+                checks.equal("a connection", stream.ask("/a.txt")[::2], (OK, site.files["a.txt"]))
+            for _ in range(2 * most):
+                crowd.append(connect(server.port))
+            time.sleep(0.5)
+            turned = sum(map(is_ended, crowd))
+            checks.equal("some are held and some turned away", 0 < turned < len(crowd), True)
+            for _ in range(20):
+                checks.equal("a file that is open, with no descriptor left", first.ask("/a.txt")[::2], (OK, site.files["a.txt"]))
+            # A file that can't be opened is a fault, which ends this connection and no other.
+            with contextlib.suppress(ConnectionError):
+                status, _, content = second.ask("/big.bin")
+                checks.equal("a file that isn't open, with no descriptor left", (status, content) in ((OK, site.files["big.bin"]), (0, b"")), True)
             for link in crowd:
                 link.close()
-        time.sleep(0.3)
+            time.sleep(0.5)
+            checks.equal("the first one, afterwards", first.ask("/index.html")[::2], (OK, b"hi\n"))
         with Stream(server.port) as stream:
-            checks.equal("a connection afterwards", stream.ask("/index.html")[::2], (OK, b"hi\n"))
+            checks.equal("another one, afterwards", stream.ask("/big.bin")[::2], (OK, site.files["big.bin"]))
         server.finish(checks, "few descriptors")
 
 
