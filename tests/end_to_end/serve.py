@@ -179,7 +179,7 @@ class Beside:
             except OSError as error:
                 self.wrong.append(error)
             self.seconds.append(time.monotonic() - began)
-            time.sleep(0.02)
+            time.sleep(0.05)
 
     def __enter__(self):
         self.thread.start()
@@ -192,7 +192,7 @@ class Beside:
         self.over.set()
         self.thread.join(timeout=2 * WAIT)
 
-    def check(self, checks, what, slowest=5):
+    def check(self, checks, what, slowest=10):
         checks.equal(f"{what}: the client beside it is answered", (len(self.seconds) > 3, self.wrong), (True, []))
         checks.equal(f"{what}: it waits {slowest} seconds at most", max(self.seconds, default=0) < slowest, True)
 
@@ -359,7 +359,7 @@ def check_bodies(checks, program, site):
 
 def check_endless_body(checks, program, site):
     """Who goes on sending after a refusal is cut off, and nobody else waits for it."""
-    with Server(program, site.top, 3000, seconds=2, dispatchers=1) as server, Beside(server, "/a.txt", site.files["a.txt"]) as beside:
+    with Server(program, site.top, 1500, seconds=2, dispatchers=1) as server, Beside(server, "/a.txt", site.files["a.txt"]) as beside:
         began = time.monotonic()
         with connect(server.port) as link:
             link.sendall(b"POST /a.txt HTTP/1.1\r\nHost: a\r\nContent-Length: 2000000000\r\n\r\n")
@@ -420,7 +420,7 @@ def check_gone(checks, program, site):
     path = site.top / "gone.bin"
     path.write_bytes(pattern(0, size))
     path.chmod(0o644)
-    with Server(program, site.top, 2000, seconds=2) as server:
+    with Server(program, site.top, 800, seconds=2) as server:
         with Stream(server.port) as stream:
             stream.ask("/a.txt")
         time.sleep(0.3)
@@ -707,21 +707,23 @@ def check_wrk(checks, program, site):
 def check_ab(checks, program, site):
     """ab gets as many answers as it asks for, each of the same length."""
     ab = tool("ab")
-    with Server(program, site.top, 30_000) as server:
+    count = 3_000
+    with Server(program, site.top, count + 300) as server:
         for words in ([], ["-k"]):
-            status, text = said([ab, "-q", "-n", 5000, "-c", 50, *words, server.base + "/a.txt"])
+            status, text = said([ab, "-q", "-n", count, "-c", 50, *words, server.base + "/a.txt"])
             got = number(r"Complete requests:\s+(\d+)", text), number(r"Failed requests:\s+(\d+)", text), number(r"Non-2xx responses:\s+(\d+)", text)
-            checks.equal(f"ab {words}: {text if got[0] is None else ''}", (status, *got), (0, 5000, 0, None))
+            checks.equal(f"ab {words}: {text if got[0] is None else ''}", (status, *got), (0, count, 0, None))
         server.finish(checks, "ab")
 
 
 def check_h2load(checks, program, site):
     """h2load in its mode of HTTP/1.1 gets each answer."""
     h2load = tool("h2load")
-    with Server(program, site.top, 2_000) as server:
-        status, text = said([h2load, "--h1", "-n", 20000, "-c", 50, "-t", 2, server.base + "/a.txt"])
+    count = 10_000
+    with Server(program, site.top, 200) as server:
+        status, text = said([h2load, "--h1", "-n", count, "-c", 50, "-t", 2, server.base + "/a.txt"])
         got = number(r"(\d+) succeeded", text), number(r"(\d+) failed", text), number(r"status codes: (\d+) 2xx", text)
-        checks.equal(f"h2load: {text if got[0] is None else ''}", (status, *got), (0, 20000, 0, 20000))
+        checks.equal(f"h2load: {text if got[0] is None else ''}", (status, *got), (0, count, 0, count))
         server.finish(checks, "h2load")
 
 
@@ -769,7 +771,7 @@ def check_haproxy(checks, program, site):
     tool("haproxy")
     folder = site.folder / "proxy"
     folder.mkdir()
-    with Server(program, site.top, 5_000) as server:
+    with Server(program, site.top, 500) as server:
         proxy = Proxy(folder, server.port)
         checks.equal("each line of haproxy.cfg that is changed stands there once", [old for old, count in proxy.changed if count != 1], [])
         checks.equal("haproxy takes the file", said([tool("haproxy"), "-c", "-f", proxy.file])[0], 0)
