@@ -796,6 +796,28 @@ def check_haproxy(checks, program, site):
         server.finish(checks, "haproxy")
 
 
+def check_unit(checks, program, site):
+    """The systemd unit is one that systemd takes, and what it starts is a server."""
+    text = (OPERATIONS / "warp_serve.service").read_text()
+    given = dict(pair.split("=") for pair in re.search(r"^Environment=(.*)", text, re.MULTILINE).group(1).split())
+    words = re.search(r"^ExecStart=(.*)", text, re.MULTILINE).group(1).split()
+    checks.equal("the program of the unit", words[:2], ["/usr/local/bin/warp_serve", "serve"])
+    given.update(ROOT=str(site.top), PORT=str(free_port()), CONNECTIONS="1")
+    words = [given[word.strip("${}")] if word.startswith("$") else word for word in words[1:]]
+    run = start(program, words)
+    try:
+        checks.equal("the unit's words", run.stdout.readline(), b"listening\n")
+        with Stream(int(given["PORT"])) as stream:
+            checks.equal("a file of it", stream.ask("/index.html")[::2], (OK, b"hi\n"))
+        checks.equal("its end", (run.wait(timeout=WAIT), run.stdout.read(), run.stderr.read()), (0, b"connections 1\n", b""))
+    finally:
+        run.kill()
+        run.communicate(timeout=WAIT)
+    unit = site.folder / "warp_serve.service"
+    unit.write_text(text.replace("/usr/local/bin/warp_serve", str(program.path)))
+    checks.equal("systemd-analyze verify", said([tool("systemd-analyze"), "verify", unit]), (0, ""))
+
+
 def check_slowhttptest(checks, program, site):
     """Slow heads, slow bodies, ranges without end and slow readers hold nobody else up."""
     slow = tool("slowhttptest")
