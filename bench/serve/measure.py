@@ -109,7 +109,10 @@ class Running:
 
     def __init__(self, name, port, words, before=()):
         self.name, self.port = name, port
-        self.run = subprocess.Popen([*before, *map(str, words)], stdin=subprocess.DEVNULL, stdout=subprocess.DEVNULL, stderr=subprocess.DEVNULL)
+        # In a group of its own, since lighttpd with workers ends all of its group.
+        self.run = subprocess.Popen(
+            [*before, *map(str, words)], stdin=subprocess.DEVNULL, stdout=subprocess.DEVNULL, stderr=subprocess.DEVNULL, start_new_session=True
+        )
         self.pid = self.run.pid
         end = time.monotonic() + 60
         while time.monotonic() < end and self.run.poll() is None:
@@ -200,6 +203,8 @@ class Bench:
 
     def measure(self, scene):
         """The medians of the rounds, by the server's name: microseconds of a request, those in the program, and requests a second."""
+        # Of many connections the making costs something too, and counts for less in a longer run.
+        seconds = self.seconds * (2 if scene.connections > 64 else 1)
         servers = self.servers(scene)
         costs = {server.name: [] for server in servers}
         try:
@@ -207,7 +212,7 @@ class Bench:
                 self.load(server, scene, 1)
             for _ in range(self.rounds):
                 for server in servers:
-                    costs[server.name].append(self.load(server, scene, self.seconds))
+                    costs[server.name].append(self.load(server, scene, seconds))
         finally:
             for server in servers:
                 server.stop()
