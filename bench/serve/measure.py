@@ -4,7 +4,7 @@
     python3 bench/serve/measure.py [--short] [--only WORD] [--rounds N] [--seconds S] [PROGRAM]
 
 PROGRAM is a built `warp_serve`; without it, crates/warp_serve/out/warp_serve. It prints tables for docs/BENCHMARKS.md: about three
-minutes with --short, and about half an hour without. --only takes the parts and the scenes whose name has WORD in it.
+minutes with --short, and about half an hour without. --only takes the parts and the scenes in whose name the regular expression WORD is found.
 
 Cost is processor time: what the server's process and those below it took, user and kernel together, by /proc/PID/stat, divided by
 the requests that wrk had answered. All servers run at once, and one after the other is loaded for some seconds, so that what else
@@ -204,12 +204,13 @@ class Bench:
     def measure(self, scene):
         """The medians of the rounds, by the server's name: microseconds of a request, those in the program, and requests a second."""
         # Of many connections the making costs something too, and counts for less in a longer run.
-        seconds = self.seconds * (2 if scene.connections > 64 else 1)
+        seconds = self.seconds if scene.connections <= 64 else max(3, 2 * self.seconds)
         servers = self.servers(scene)
         costs = {server.name: [] for server in servers}
         try:
             for server in servers:
-                self.load(server, scene, 1)
+                with contextlib.suppress(RuntimeError):
+                    self.load(server, scene, 1)
             for _ in range(self.rounds):
                 for server in servers:
                     costs[server.name].append(self.load(server, scene, seconds))
@@ -410,16 +411,18 @@ def main():
     resource.setrlimit(resource.RLIMIT_NOFILE, (min(16384, resource.getrlimit(resource.RLIMIT_NOFILE)[1]),) * 2)
     if not shutil.which("wrk"):
         sys.exit("wrk is missing: apt-get install wrk nginx lighttpd gcc nghttp2-client valgrind strace")
+    # Whoever ends the script ends its servers with it.
+    signal.signal(signal.SIGTERM, lambda *_: sys.exit("ended"))
     began = time.monotonic()
     with tempfile.TemporaryDirectory() as folder:
         os.chmod(folder, 0o755)
         bench = Bench(given.program, folder, given.seconds or (1 if given.short else 2), given.rounds or (3 if given.short else 5))
-        chosen = [scene for scene in scenes(given.short) if given.only in " ".join(map(str, scene))]
+        chosen = [scene for scene in scenes(given.short) if re.search(given.only, " ".join(map(str, scene)))]
         if chosen:
             table_of_scenes(bench, chosen)
             print()
         for name, part in PARTS.items():
-            if given.only in name:
+            if re.search(given.only, name):
                 try:
                     part(bench)
                 except (RuntimeError, OSError, subprocess.SubprocessError) as trouble:
