@@ -37,6 +37,16 @@ SPARE = 150
 REQUESTS = 1000
 BODY = 1_048_576
 OK, NOT_FOUND, MOVED, TOO_LARGE = 200, 404, 301, 413
+# For wrk: sixteen requests behind each other.
+PIPELINED = """
+local all
+init = function(args)
+  local each = {}
+  for k = 1, 16 do each[k] = wrk.format("GET") end
+  all = table.concat(each)
+end
+request = function() return all end
+"""
 
 
 def free_port():
@@ -100,9 +110,8 @@ class Stream:
 def start(program, words, descriptors=None):
     """A run of the program, which may have so many descriptors."""
     limited = [] if descriptors is None else ["sh", "-c", f'ulimit -n {descriptors}; exec "$@"', "sh"]
-    return subprocess.Popen(
-        [*limited, program.path, *map(str, words)], stdin=subprocess.DEVNULL, stdout=subprocess.PIPE, stderr=subprocess.PIPE, **program.lowered()
-    )
+    pipes = {"stdin": subprocess.DEVNULL, "stdout": subprocess.PIPE, "stderr": subprocess.PIPE}
+    return subprocess.Popen([*limited, program.path, *map(str, words)], **pipes, **program.lowered())
 
 
 class Server:
@@ -205,12 +214,22 @@ def tool(name):
     return path
 
 
-def said(words, timeout=60, **more):
-    """The status and the text of a client's run."""
-    done = subprocess.run(
-        [str(word) for word in words], stdin=subprocess.DEVNULL, stdout=subprocess.PIPE, stderr=subprocess.STDOUT, timeout=timeout, **more
-    )
-    return done.returncode, done.stdout.decode(errors="replace")
+def begun(words, **more):
+    """A client's run that has begun, with one pipe for all that it says."""
+    pipes = {"stdin": subprocess.DEVNULL, "stdout": subprocess.PIPE, "stderr": subprocess.STDOUT}
+    return subprocess.Popen([str(word) for word in words], **pipes, **more)
+
+
+def said(words, timeout=60):
+    """The status and the text of a client's run, which is ended where it takes too long."""
+    run = begun(words)
+    try:
+        out, _ = run.communicate(timeout=timeout)
+    except subprocess.TimeoutExpired:
+        run.kill()
+        run.communicate()
+        raise
+    return run.returncode, out.decode(errors="replace")
 
 
 def number(pattern_, text):
@@ -286,7 +305,8 @@ def check_files(checks, program, site):
                 checks.equal(f"{method} {target}", (answer.status, answer.read()), (status, b""))
             client.request("GET", "/sub?q=1")
             answer = client.getresponse()
-            checks.equal("a folder without its slash", (answer.status, answer.getheader("Location"), answer.read()), (MOVED, "/sub/?q=1", b""))
+            got = answer.status, answer.getheader("Location"), answer.read()
+            checks.equal("a folder without its slash", got, (MOVED, "/sub/?q=1", b""))
             client.close()
             server.finish(checks, f"one connection, {dispatchers} dispatchers")
 
@@ -348,7 +368,8 @@ def check_bodies(checks, program, site):
                     if ends:
                         link.shutdown(socket.SHUT_WR)
                     out, in_order = read_to_end(link)
-                    checks.equal(f"a body {what}, all sent before anything is read", (out[:12], out[-4:], in_order), (b"HTTP/1.1 413", b"\r\n\r\n", True))
+                    got = out[:12], out[-4:], in_order
+                    checks.equal(f"a body {what}, all sent before anything is read", got, (b"HTTP/1.1 413", b"\r\n\r\n", True))
         with Stream(server.port) as stream:
             status, _, _ = stream.ask("/a.txt", "POST", "Content-Length: 5\r\nExpect: 100-continue\r\n")
             checks.equal("leave to send a body", status, 100)
@@ -399,7 +420,8 @@ def check_half_close(checks, program, site):
                 link.shutdown(socket.SHUT_WR)
                 time.sleep(0.05)
                 out, in_order = read_to_end(link)
-                checks.equal(f"/{name} after a half-close", (out[:15], out.partition(b"\r\n\r\n")[2] == content, in_order), (b"HTTP/1.1 200 OK", True, True))
+                got = out[:15], out.partition(b"\r\n\r\n")[2] == content, in_order
+                checks.equal(f"/{name} after a half-close", got, (b"HTTP/1.1 200 OK", True, True))
         with connect(server.port) as link:
             link.sendall(get("/a.txt")[:-4])
             link.shutdown(socket.SHUT_WR)
@@ -456,7 +478,12 @@ def check_silent(checks, program, site):
         with Stream(server.port) as stream:
             stream.ask("/a.txt")
         links, began = {}, {}
-        for what, text in (("nothing", b""), ("half a head", get("/a.txt")[:20]), ("a whole request", get("/a.txt")), ("half a body", b"POST / HTTP/1.1\r\nHost: a\r\nContent-Length: 9\r\n\r\n1234")):
+        for what, text in (
+            ("nothing", b""),
+            ("half a head", get("/a.txt")[:20]),
+            ("a whole request", get("/a.txt")),
+            ("half a body", b"POST / HTTP/1.1\r\nHost: a\r\nContent-Length: 9\r\n\r\n1234"),
+        ):
             for k in range(3):
                 name = f"{what}, {k}"
                 links[name] = connect(server.port)
@@ -480,7 +507,7 @@ def check_silent(checks, program, site):
             # The clock counts whole seconds, so up to one is lost on either side.
             took = ended.get(name, 99)
             within = seconds - 1 <= took <= 2 * seconds + 1
-            checks.equal(f"{name}: closed within {seconds} to {2 * seconds} seconds" + ("" if within else f", not {took:.2f}"), within, True)
+            checks.equal(f"{name}: closed after {took:.2f} s, of {seconds} to {2 * seconds}", within, True)
             links[name].close()
         with Stream(server.port) as stream:
             for _ in range(6):
@@ -573,7 +600,8 @@ def check_few_descriptors(checks, program, site):
             # A file that can't be opened is a fault, which ends this connection and no other.
             with contextlib.suppress(ConnectionError):
                 status, _, content = second.ask("/big.bin")
-                checks.equal("a file that isn't open, with no descriptor left", (status, content) in ((OK, site.files["big.bin"]), (0, b"")), True)
+                fine = (status, content) in ((OK, site.files["big.bin"]), (0, b""))
+                checks.equal("a file that isn't open, with no descriptor left", fine, True)
             for link in crowd:
                 link.close()
             time.sleep(0.5)
@@ -673,19 +701,23 @@ def check_large_file(checks, program, site):
 
 def check_curl(checks, program, site):
     """curl keeps a connection, asks for heads, follows a redirection, and sends requests behind each other."""
-    curl = [tool("curl"), "-s", "--noproxy", "*", "-m", WAIT]
+    curl = tool("curl")
+    usual = ["-s", "--noproxy", "*", "-m", WAIT]
+    nothing = ["-o", "/dev/null", "-w"]
+    body = site.folder / "body"
+    body.write_bytes(bytes(2_000_000))
     with Server(program, site.top, 7) as server:
-        a = site.files["a.txt"].decode()
+        a, at_a = site.files["a.txt"].decode(), server.base + "/a.txt"
+        at_nope, at_sub = [*nothing, "%{http_code} ", server.base + "/nope"], server.base + "/sub/"
         for what, words, want in (
-            ("two files on one connection", ["-w", "%{num_connects} ", server.base + "/a.txt", server.base + "/index.html"], a + "1 hi\n0 "),
-            ("HEAD", ["-I", "-o", "/dev/null", "-w", "%{http_code} %{size_download}", server.base + "/big.bin"], "200 0"),
+            ("two files on one connection", ["-w", "%{num_connects} ", at_a, server.base + "/index.html"], a + "1 hi\n0 "),
+            ("HEAD", ["-I", *nothing, "%{http_code} %{size_download}", server.base + "/big.bin"], "200 0"),
             ("a folder without its slash", ["-L", "-w", "%{http_code} %{num_redirects}", server.base + "/sub"], "sub\n200 1"),
-            ("several by --next", [server.base + "/a.txt", "--next", "-s", "-m", WAIT, "-I", "-o", "/dev/null", "-w", "%{http_code} ", server.base + "/nope", "--next", "-s", "-m", WAIT, server.base + "/sub/"], a + "404 sub\n"),
-            ("a body that is too large", ["-H", "Expect:", "--data-binary", "@" + str(site.folder / "two_megabytes"), "-w", "%{http_code}", server.base + "/a.txt"], "413"),
-            ("HTTP/1.0", ["-0", server.base + "/a.txt"], a),
+            ("several by --next", [at_a, "--next", *usual, "-I", *at_nope, "--next", *usual, at_sub], a + "404 sub\n"),
+            ("a body that is too large", ["-H", "Expect:", "--data-binary", f"@{body}", "-w", "%{http_code}", at_a], "413"),
+            ("HTTP/1.0", ["-0", at_a], a),
         ):
-            (site.folder / "two_megabytes").write_bytes(bytes(2_000_000))
-            checks.equal(f"curl: {what}", said([*curl, *words]), (0, want))
+            checks.equal(f"curl: {what}", said([curl, *usual, *words]), (0, want))
         server.finish(checks, "curl")
 
 
@@ -693,7 +725,7 @@ def check_wrk(checks, program, site):
     """wrk keeps many connections busy, with one request at a time, with many behind each other, and with a close behind each."""
     wrk = tool("wrk")
     script = site.folder / "pipelined.lua"
-    script.write_text('init = function(args) local r = {} for k = 1, 16 do r[k] = wrk.format("GET") end all = table.concat(r) end\nrequest = function() return all end\n')
+    script.write_text(PIPELINED)
     for what, words in (("keep-alive", []), ("pipelined", ["-s", script]), ("closing", ["-H", "Connection: close"])):
         with Server(program, site.top, 200_000) as server:
             status, text = said([wrk, "-t", 2, "-c", 100, "-d", "1", *words, server.base + "/a.txt"])
@@ -711,7 +743,7 @@ def check_ab(checks, program, site):
     with Server(program, site.top, count + 300) as server:
         for words in ([], ["-k"]):
             status, text = said([ab, "-q", "-n", count, "-c", 50, *words, server.base + "/a.txt"])
-            got = number(r"Complete requests:\s+(\d+)", text), number(r"Failed requests:\s+(\d+)", text), number(r"Non-2xx responses:\s+(\d+)", text)
+            got = [number(rf"{name}:\s+(\d+)", text) for name in ("Complete requests", "Failed requests", "Non-2xx responses")]
             checks.equal(f"ab {words}: {text if got[0] is None else ''}", (status, *got), (0, count, 0, None))
         server.finish(checks, "ab")
 
@@ -734,21 +766,28 @@ class Proxy:
         self.port = free_port()
         self.certificate = folder / "certificate.pem"
         self.key = folder / "key.pem"
-        made = said([tool("openssl"), "req", "-x509", "-newkey", "rsa:2048", "-nodes", "-days", "2", "-subj", "/CN=localhost", "-addext", "subjectAltName=DNS:localhost,IP:127.0.0.1", "-keyout", self.key, "-out", self.certificate])
+        asked = "req -x509 -newkey rsa:2048 -nodes -days 2 -subj /CN=localhost -addext subjectAltName=DNS:localhost,IP:127.0.0.1"
+        made = said([tool("openssl"), *asked.split(), "-keyout", self.key, "-out", self.certificate])
         if made[0]:
             raise NotRun(f"openssl makes no certificate: {made[1]}")
         both = folder / "both.pem"
         both.write_bytes(self.certificate.read_bytes() + self.key.read_bytes())
         text = (OPERATIONS / "haproxy.cfg").read_text()
         self.changed = []
-        for old, new in (("*:443", f"{HERE}:{self.port}"), ("*:80", f"{HERE}:{free_port()}"), ("127.0.0.1:8080", f"{HERE}:{behind}"), ("/etc/haproxy/warp_serve.pem", str(both)), ("    user haproxy\n    group haproxy\n", "")):
+        for old, new in (
+            ("*:443", f"{HERE}:{self.port}"),
+            ("*:80", f"{HERE}:{free_port()}"),
+            ("127.0.0.1:8080", f"{HERE}:{behind}"),
+            ("/etc/haproxy/warp_serve.pem", str(both)),
+            ("    user haproxy\n    group haproxy\n", ""),
+        ):
             self.changed.append((old, text.count(old)))
             text = text.replace(old, new)
         self.file = folder / "haproxy.cfg"
         self.file.write_text(text)
 
     def start(self):
-        self.run = subprocess.Popen([tool("haproxy"), "-db", "-f", self.file], stdin=subprocess.DEVNULL, stdout=subprocess.PIPE, stderr=subprocess.STDOUT)
+        self.run = begun([tool("haproxy"), "-db", "-f", self.file])
         end = time.monotonic() + WAIT
         while time.monotonic() < end and self.run.poll() is None:
             with contextlib.suppress(OSError):
@@ -835,8 +874,7 @@ def check_slowhttptest(checks, program, site):
         with Beside(server, "/a.txt", site.files["a.txt"]) as beside:
             runs = []
             for _, words in modes:
-                words = [slow, *usual, *words, "-u", server.base + "/slow.bin"]
-                runs.append(subprocess.Popen([str(word) for word in words], cwd=site.folder, stdin=subprocess.DEVNULL, stdout=subprocess.PIPE, stderr=subprocess.STDOUT))
+                runs.append(begun([slow, *usual, *words, "-u", server.base + "/slow.bin"], cwd=site.folder))
             for (what, _), run in zip(modes, runs):
                 try:
                     out, _ = run.communicate(timeout=WAIT)
@@ -844,7 +882,8 @@ def check_slowhttptest(checks, program, site):
                     run.kill()
                     out, _ = run.communicate(timeout=WAIT)
                 down = re.search(rb"service available:.*NO", out)
-                checks.equal(f"slowhttptest of {what} ends, and finds the service there", (run.returncode, down and down.group(0)), (0, None))
+                got = run.returncode, down and down.group(0)
+                checks.equal(f"slowhttptest of {what} ends, and finds the service there", got, (0, None))
         beside.check(checks, "slow clients")
         checks.equal("the server is still there", server.run.poll(), None)
     path.unlink()
@@ -862,7 +901,8 @@ def check_chromium(checks, program, site):
         path.chmod(0o755 if path.is_dir() else 0o644)
     title = re.search(r"<title>(.*?)</title>", (top / "index.html").read_text()).group(1)
     shot = site.folder / "shot.png"
-    usual = [browser, "--headless", "--no-sandbox", "--disable-gpu", "--no-first-run", "--disable-background-networking", f"--user-data-dir={site.folder / 'browser'}", "--virtual-time-budget=3000"]
+    usual = "--headless --no-sandbox --disable-gpu --no-first-run --disable-background-networking --virtual-time-budget=3000"
+    usual = [browser, *usual.split(), f"--user-data-dir={site.folder / 'browser'}"]
     with Server(program, top, 500) as server:
         status, text = said([*usual, "--dump-dom", server.base + "/"], timeout=60)
         shown = re.search(r"<title>(.*?)</title>", text)
