@@ -17,7 +17,10 @@ import time
 from pathlib import Path
 
 SITE = Path(__file__).resolve().parent.parent.parent / "examples" / "site"
-USAGE = "usage: warp_serve connection ROOT | drive SEED CONNECTIONS REQUESTS DISPATCHERS"
+USAGE = (
+    "usage: warp_serve connection ROOT | serve ROOT ADDR PORT DISPATCHERS CONNECTIONS SECONDS"
+    " | drive SEED CONNECTIONS REQUESTS DISPATCHERS"
+)
 TYPES = {
     ".html": "text/html; charset=utf-8",
     ".txt": "text/plain; charset=utf-8",
@@ -173,7 +176,7 @@ def check_statuses(checks, program, site):
         ("a missing root", ["connection", str(site.folder / "missing")], whole, 7, "no such folder\n"),
         ("a root that is a file", ["connection", str(site.top / "a.txt")], whole, 7, "no such folder\n"),
         ("bytes that are no request", root, b"\0\r\n\r\n", 0, ""),
-        ("a command that isn't there", ["serve", str(site.top), "127.0.0.1", "8080", "2", "1", "30"], whole, 2, USAGE + "\n"),
+        ("a command that isn't there", ["server", str(site.top), "127.0.0.1", "8080", "2", "1", "30"], whole, 2, USAGE + "\n"),
     ):
         got = program.run(words, text)
         checks.equal(what, (got[0], got[2]), (status, line))
