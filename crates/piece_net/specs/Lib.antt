@@ -1,0 +1,2 @@
+pub mod PieceListeners
+pub mod PiecePolls
