@@ -1,5 +1,5 @@
 //! A poller that plays a script: some of its polls fail, and every other one reports openings in turn.
-ghost use Rattle.std.specs.Prelude.{◌≡◌, ◌≤◌, [], MatchOption, length, ◌<◌, ◌×◌};
+ghost use Rattle.std.specs.Prelude.{◌≡◌, ◌≤◌, [], MatchOption, length, ◌<◌};
 ghost use Rattle.std.specs.List.{remove};
 ghost use Rattle.poller.specs.Polls.{HasToken};
 ghost use Rattle.poller.specs.Rounds.{no_faults};

@@ -1,0 +1,2 @@
+pub mod MemFronts
+pub mod SentBooks
