@@ -95,9 +95,13 @@ where
     R::File: FileExt,
 {
     type Poller = SockPoller<'a, R>;
+
     type Files = OsFiles<'a, R>;
+
     type Clock = OsClock<'a, R>;
+
     type Book = SumBook;
+
     type Gate = FreeGate;
 
     ghost use Rattle.sock_front.specs.SockFronts.{told_of};

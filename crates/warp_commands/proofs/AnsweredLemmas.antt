@@ -19,7 +19,7 @@ use Rattle.conn_loop.specs.declared.step.Step.{Step}
 use Rattle.conn_loop.specs.declared.step.Step.TheVariants.{WantRead, WantWrite, WantFile, Done}
 use Rattle.conn_loop.specs.declared.step.End.TheVariants as End
 use Rattle.warp_commands.specs.declared.status.Status.{Status}
-use Rattle.warp_commands.specs.declared.status.Status.TheVariants.{Clean, Cut, Usage, ReadFault, WriteFault, FileFault, NoMemory, NoSuchFolder, PollFault, AcceptFault, Spent, OutFault, NotReady, TurnedAway}
+use Rattle.warp_commands.specs.declared.status.Status.TheVariants.{Clean, Cut, Usage, ReadFault, WriteFault, FileFault, NoMemory, NoSuchFolder, PollFault, AcceptFault, Spent, OutFault, CannotListen, NotReady, TurnedAway}
 use Rattle.warp_commands.specs.Served.{IsAnswered, IsAnsweredFor, HoldsAt, IsUnused}
 use Rattle.warp_commands.specs.Steps.{status_after}
 
@@ -91,6 +91,7 @@ IsUnbegun PollFault = ⊥
 IsUnbegun AcceptFault = ⊥
 IsUnbegun Spent = ⊥
 IsUnbegun OutFault = ⊥
+IsUnbegun CannotListen = ⊥
 IsUnbegun TurnedAway = ⊥
 
 unbegun_holds : (status : Status) (counts : Counts) (reply : Replying) (moments taken sent : List ℕ) (ended : Option Bool)
@@ -108,6 +109,7 @@ unbegun_holds PollFault counts reply moments taken sent ended is x = absurd is
 unbegun_holds AcceptFault counts reply moments taken sent ended is x = absurd is
 unbegun_holds Spent counts reply moments taken sent ended is x = absurd is
 unbegun_holds OutFault counts reply moments taken sent ended is x = absurd is
+unbegun_holds CannotListen counts reply moments taken sent ended is x = absurd is
 unbegun_holds TurnedAway counts reply moments taken sent ended is x = absurd is
 
 unbegun_neither : (status : Status) → IsUnbegun status → (status ≢ Clean) × (status ≢ Cut)
@@ -124,6 +126,7 @@ unbegun_neither PollFault is = absurd is
 unbegun_neither AcceptFault is = absurd is
 unbegun_neither Spent is = absurd is
 unbegun_neither OutFault is = absurd is
+unbegun_neither CannotListen is = absurd is
 unbegun_neither TurnedAway is = absurd is
 
 -- a link that was not used leaves nothing to answer

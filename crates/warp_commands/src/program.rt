@@ -39,7 +39,7 @@ pub struct Host<L, F, C, O, E, N: Front> {
 
 /// Carries out the command that the words name, and gives the exit status.
 ///
-/// The words are those of the command line without the program's name. The link is handed in unused, and nothing was driven.
+/// The words are those of the command line without the program's name. The link is handed in unused, and nothing was served.
 /// The status's line goes to the stream for errors, whose faults change no status.
 pub fn run<L: Link, F: Files, C: Clock, O: Sink, E: Sink, N: Front, R: Threads + Wait + Sync>(
     rt: &R,
@@ -52,13 +52,13 @@ where
     <N::Poller as Poller>::Listener: Send,
     <N::Files as Files>::File: Send,
     requires fresh { IsFresh (L.told host.old.link) }
-    requires undriven { host.old.driven ≡ None }
+    requires unserved { (host.old.served ≡ None) × (host.old.driven ≡ None) }
 
     // What was done is what the words ask for, and the status has its cause there.
-    ensures runs { IsStatus result (λ status. Runs F.folder (words_read (map string_bytes words.now)) status
-        (record { link = L.told host.old.link; files = F.told host.old.files; clock = C.told host.old.clock; out = O.told host.old.out })
-        (record { link = L.told host.new.link; files = F.told host.new.files; clock = C.told host.new.clock; out = O.told host.new.out })
-        host.new.driven) }
+    ensures runs { IsStatus result (λ status. Runs N.Book.told N.Poller.meaning.faults F.folder (words_read (map string_bytes words.now)) status
+        (record { link = L.told host.old.link; files = F.told host.old.files; clock = C.told host.old.clock; out = O.told host.old.out; front = N.told host.old.front })
+        (record { link = L.told host.new.link; files = F.told host.new.files; clock = C.told host.new.clock; out = O.told host.new.out; front = N.told host.new.front })
+        host.new.served host.new.driven) }
 
     // The stream for errors got the status's line and nothing else.
     ensures told { IsStatus result (λ status. TellsLine (line_of status) (E.told host.old.errors) (E.told host.new.errors)) }
@@ -80,11 +80,11 @@ where
     <N::Poller as Poller>::Listener: Send,
     <N::Files as Files>::File: Send,
     requires fresh { IsFresh (L.told host.old.link) }
-    requires undriven { host.old.driven ≡ None }
-    ensures runs { Runs F.folder (words_read (map string_bytes words.now)) result
-        (record { link = L.told host.old.link; files = F.told host.old.files; clock = C.told host.old.clock; out = O.told host.old.out })
-        (record { link = L.told host.new.link; files = F.told host.new.files; clock = C.told host.new.clock; out = O.told host.new.out })
-        host.new.driven }
+    requires unserved { (host.old.served ≡ None) × (host.old.driven ≡ None) }
+    ensures runs { Runs N.Book.told N.Poller.meaning.faults F.folder (words_read (map string_bytes words.now)) result
+        (record { link = L.told host.old.link; files = F.told host.old.files; clock = C.told host.old.clock; out = O.told host.old.out; front = N.told host.old.front })
+        (record { link = L.told host.new.link; files = F.told host.new.files; clock = C.told host.new.clock; out = O.told host.new.out; front = N.told host.new.front })
+        host.new.served host.new.driven }
     ensures errors { host.new.errors ≡ host.old.errors }
 {
     match command_of(words) {

@@ -1,11 +1,13 @@
 //! A server over a front: whoever connects is served from a folder.
-ghost use Rattle.std.specs.Prelude.{◌≡◌, ◌≤◌, None, [], All, IfErr, IfOk, IfSome, length};
+ghost use Rattle.std.specs.Prelude.{◌≡◌, ◌≤◌, [], All, IfErr, IfOk, None, codes, length};
 ghost use Rattle.outside.specs.declared.files.RootOut.TheVariants as Roots;
 ghost use Rattle.outside.specs.FileCauses.{AskedRoot};
 ghost use Rattle.outside.specs.SinkCauses.{SinkTold};
+ghost use Rattle.poller.specs.Faults.{PollerFaults};
 ghost use Rattle.warp_books.specs.Books.{IsBookOf};
+ghost use Rattle.warp_commands.specs.Driven.{Prints, accepted_in, number_line};
 ghost use Rattle.warp_commands.specs.ServiceWords.{IsService, service_shown};
-ghost use Rattle.warp_commands.specs.Serving.{EndsServing, HasListened, HasServed, PrintsServing, RefusesToServe, ServesFolder, ServingTold};
+ghost use Rattle.warp_commands.specs.Serving.{EndsServing, HasListened, RefusesToServe, ServesFolder, ServingTold};
 
 use crate::printing::print_line;
 use crate::service::Service;
@@ -61,6 +63,12 @@ where
     <N::Poller as Poller>::Link: Send,
     <N::Poller as Poller>::Listener: Send,
     <N::Files as Files>::File: Send,
+    requires service { IsService service }
+    requires unserved { served.old ≡ None }
+    ensures { ServesFolder N.Book.told N.Poller.meaning.faults result root.now (service_shown service)
+        (record { files = F.told files.old; out = O.told out.old; front = N.told front.old })
+        (record { files = F.told files.new; out = O.told out.new; front = N.told front.new })
+        served.new }
 {
     let (listener, kits) = match begin(root, service, files, front) {
         Ok(begun) => begun,
@@ -90,7 +98,17 @@ fn begin<F: Files, N: Front>(
     service: Service,
     files: &mut F,
     front: &mut N,
-) -> Result<Begun<N>, Status> {
+) -> Result<Begun<N>, Status>
+    requires service { IsService service }
+    ensures count { IfOk result (λ begun. length begun.1.items ≡ service.dispatchers) }
+    ensures books { IfOk result (λ begun. All (λ kit. IsBookOf [] (N.Book.told kit.book)) begun.1.items) }
+    ensures listener { IfOk result (λ begun. (N.Poller.Listener.told begun.0).failed_row ≡ 0) }
+    ensures rooted { IfOk result (λ begun. AskedRoot Roots.Present root.now (F.told files.old) (F.told files.new)) }
+    ensures listened { IfOk result (λ begun. HasListened root.now (service_shown service) (N.told front.old) (N.told front.new)) }
+    ensures refused { IfErr result (λ status. (printed : SinkTold) → RefusesToServe status root.now (service_shown service)
+        (record { files = F.told files.old; out = printed; front = N.told front.old })
+        (record { files = F.told files.new; out = printed; front = N.told front.new })) }
+{
     match files.root(root) {
         RootOut::Present => {}
         RootOut::Absent => return Err(Status::NoSuchFolder),
@@ -110,7 +128,10 @@ fn begin<F: Files, N: Front>(
 }
 
 /// The status of a server that was begun. At its own end it says how many links it accepted.
-fn told<O: Sink>(end: ServeEnd, out: &mut O) -> Status {
+fn told<O: Sink>(end: ServeEnd, out: &mut O) -> Status
+    ensures status { EndsServing result end }
+    ensures prints { Prints result (number_line (codes "connections ") (accepted_in end)) (O.told out.old) (O.told out.new) }
+{
     match end {
         ServeEnd::Over(counts) => {
             match print_line(out, "connections ", counts.accepted as u128) {

@@ -39,7 +39,8 @@ pub enum Status {
     TurnedAway = 14,
 }
 
-const USAGE: &str = "usage: warp_serve connection ROOT | serve ROOT ADDR PORT DISPATCHERS CONNECTIONS SECONDS | drive SEED CONNECTIONS REQUESTS DISPATCHERS\n";
+const USAGE: &str =
+    "usage: warp_serve connection ROOT | serve ROOT ADDR PORT DISPATCHERS CONNECTIONS SECONDS | drive SEED CONNECTIONS REQUESTS DISPATCHERS\n";
 
 impl Status {
     /// The exit status.

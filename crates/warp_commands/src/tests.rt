@@ -7,6 +7,8 @@ mod bodies;
 mod cuts;
 mod drives;
 mod files;
+mod no_front;
+mod services;
 
 use crate::run_connection;
 use outside::{MemClock, MemFile, MemFiles, MemSink, PieceLink, Place, ReadEvent, WriteEvent};
@@ -540,7 +542,7 @@ fn a_root_that_is_not_there_and_a_moment_without_a_date(rt: HostRuntime) -> Resu
 }
 
 const USAGE: &str =
-    "usage: warp_serve connection ROOT | drive SEED CONNECTIONS REQUESTS DISPATCHERS\n";
+    "usage: warp_serve connection ROOT | serve ROOT ADDR PORT DISPATCHERS CONNECTIONS SECONDS | drive SEED CONNECTIONS REQUESTS DISPATCHERS\n";
 
 #[test]
 fn words_that_are_no_command_get_the_usage(rt: HostRuntime) -> Result<(), Fail> {

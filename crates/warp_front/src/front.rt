@@ -1,7 +1,7 @@
 // What a server asks for before it serves. What contracts know of a front is one record.
 ghost use Rattle.std.specs.Prelude.{◌≡◌, ◌<◌, ◌≤◌, [], All, length};
 ghost use Rattle.warp_books.specs.Books.{IsBookOf};
-ghost use Rattle.warp_front.specs.Fronts.{AskedForKits, AskedToListen, FrontTold, IfListening, IfMade};
+ghost use Rattle.warp_front.specs.Fronts.{AskedForKits, AskedToListen, FrontTold, IfListening, IfMade, IsUnheard};
 
 use outside::{Clock, Files};
 use poller::Poller;
@@ -33,9 +33,13 @@ pub enum KitsOut<K> {
 /// What a server begins with: whoever listens for it, and makes what each of its dispatchers works with.
 pub trait Front {
     type Poller: Poller + Send + Drop;
+
     type Files: Files + Send + Drop;
+
     type Clock: Clock + Send + Drop;
+
     type Book: Book<Finished<<Self::Poller as Poller>::Link, Self::Files>> + Send;
+
     type Gate: Gate + Send + Drop;
 
     // What was asked of it, and how many faults there were.
@@ -47,6 +51,7 @@ pub trait Front {
         address: [u8; 4],
         port: u16,
     ) -> ListenOut<<Self::Poller as Poller>::Listener>
+        ensures unheard { IfListening result (λ listener. IsUnheard (Self.Poller.Listener.told listener)) }
         ensures asked { AskedToListen result address port (told self.old) (told self.new) };
 
     /// Makes so many kits, whose files lie below the root.

@@ -1,5 +1,6 @@
 // Whole commands, by the call that the program is: loads that are served in memory, and one connection.
 
+use super::no_front::NoFront;
 use super::{ASKED, MOMENT, PAGE, ROOM, Scene, USAGE, over_the_site, whole};
 use crate::{Host, run};
 use outside::{MemClock, MemFiles, MemSink, PieceLink};
@@ -11,10 +12,10 @@ use warp_core::{Counts, ServeEnd};
 use warp_load::{LoadPlace, load_files};
 
 /// What a command is run with here.
-type MemHost = Host<PieceLink, MemFiles<LoadPlace>, MemClock, MemSink, MemSink>;
+pub(super) type MemHost = Host<PieceLink, MemFiles<LoadPlace>, MemClock, MemSink, MemSink, NoFront>;
 
 /// Runs these words over the files of a load, with a link that asks for a page and so much room for lines: the status, and the host.
-fn ran<R: Threads + Wait + Sync>(
+pub(super) fn ran<R: Threads + Wait + Sync>(
     rt: &R,
     alloc: Global,
     words: &[&str],
@@ -30,6 +31,8 @@ fn ran<R: Threads + Wait + Sync>(
         clock: MemClock::new(vec![in alloc; MOMENT]?),
         out: MemSink::new(alloc, room)?,
         errors: MemSink::new(alloc, 300)?,
+        front: NoFront,
+        served: None,
         driven: None,
     };
     let status = run(rt, alloc, &owned, &mut host);
