@@ -1,1 +1,2 @@
-pub mod PollLemmas
+mod EventLemmas
+mod TurnLemmas

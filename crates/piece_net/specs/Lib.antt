@@ -1,2 +1,3 @@
+pub mod AcceptEvents
 pub mod PieceListeners
 pub mod PiecePolls

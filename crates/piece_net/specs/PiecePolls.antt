@@ -8,7 +8,7 @@ use Rattle.poller.specs.declared.poller.AddOut.{AddOut}
 use Rattle.poller.specs.declared.poller.AddOut.TheVariants as Adds
 use Rattle.poller.specs.declared.poller.PollOut.{PollOut}
 use Rattle.poller.specs.declared.poller.PollOut.TheVariants as Polls
-use Rattle.poller.specs.Faults.{PollerFaults}
+use Rattle.poller.specs.Faults.{PollerFaults, PollsLeave}
 use Rattle.poller.specs.Polls.{Report}
 use Rattle.poller.specs.Rounds.{reports_of}
 use Rattle.piece_net.specs.declared.piece_poller.PiecePoller.{PiecePoller}
@@ -62,3 +62,4 @@ PlaysPoll old Polls.Polled out new =
 pub record IsPoll (old : PiecePoller) (idle : Bool) (result : PollOut) (out : List Report) (new : PiecePoller) : Type 0 where
   pub plays : PlaysPoll old result out new
   pub counted : calls_of new ≡ called (calls_of old)
+  pub leaves : PollsLeave (faults_of old) (faults_of new)

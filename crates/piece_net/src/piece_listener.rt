@@ -1,8 +1,9 @@
 //! A listener that plays a script. It tells no plans.
 ghost use Rattle.std.specs.Prelude.{◌≡◌, ◌≤◌, All, length};
+ghost use Rattle.std.proofs.Props.{props};
 ghost use Rattle.outside.specs.ListenCauses.{HasAccepted, IfAccepted, IsPlannedAt, IsUntouched};
 ghost use Rattle.outside.specs.PieceLink.{told_of as link_told};
-ghost use Rattle.piece_net.specs.PieceListeners.{GivesUntouched, PlaysAccept, events_of, told_of, untouched_listener};
+ghost use Rattle.piece_net.specs.AcceptEvents.{GivesUntouched, PlaysAccept};
 
 use outside::{AcceptOut, Count, Listener, PieceLink};
 use std::alloc::Global;
@@ -27,11 +28,13 @@ pub struct PieceListener {
     waits: Count,
     faults: Count,
     failed_row: Count,
-    ghost untouched: { All GivesUntouched events.items },
+    ghost untouched: { All GivesUntouched events.items } by { Prim.hlevel props },
     ghost row_fits: { failed_row.n ≤ faults.n },
 }
 
 impl PieceListener {
+    ghost use Rattle.piece_net.specs.PieceListeners.{events_of, told_of, untouched_listener};
+
     /// A listener that plays these events. The caller owes that nothing was asked of their links.
     pub fn new(events: Vec<AcceptEvent>) -> PieceListener
         requires { All GivesUntouched events.items }
@@ -56,10 +59,13 @@ impl PieceListener {
 }
 
 impl Listener for PieceListener {
+    ghost use Rattle.piece_net.specs.PieceListeners.{events_of, told_of};
+
     type Link = PieceLink;
 
     ghost told = { told_of };
 
+    #[tactic(auto, using(crate::proofs::EventLemmas::first_given, crate::proofs::EventLemmas::others_given))]
     fn accept(&mut self) -> AcceptOut<PieceLink>
         ensures untouched { IfAccepted result (λ link. IsUntouched (link_told link)) }
         ensures planned { IfAccepted result (λ link. IsPlannedAt (told_of self.old).plans (told_of self.old).accepted (link_told link).plan) }

@@ -1,9 +1,7 @@
 //! A poller that plays a script: some of its polls fail, and every other one reports openings in turn.
 ghost use Rattle.std.specs.Prelude.{◌≡◌, ◌≤◌, [], MatchOption, length, ◌<◌};
-ghost use Rattle.std.specs.List.{remove};
 ghost use Rattle.poller.specs.Polls.{HasToken};
 ghost use Rattle.poller.specs.Rounds.{no_faults};
-ghost use Rattle.piece_net.specs.PiecePolls.{IsPlaceFor, IsPoll, Keeping, calls_of, faults_of, openings_of, openings_after, reports_in_turn, without};
 
 use crate::limits::KEPT;
 use crate::piece_listener::PieceListener;
@@ -26,6 +24,8 @@ pub struct PiecePoller {
 }
 
 impl PiecePoller {
+    ghost use Rattle.piece_net.specs.PiecePolls.{IsPlaceFor, Keeping, calls_of, faults_of, openings_after, openings_of, reports_in_turn};
+
     /// A poller to which nothing was added. Its polls are numbered from 1, and those in `failing` fail.
     pub fn new(alloc: Global, failing: Vec<u64>) -> PiecePoller
         ensures openings { openings_of result ≡ [] }
@@ -56,6 +56,7 @@ impl PiecePoller {
     }
 
     /// The place of the opening that has this descriptor.
+    #[tactic(auto, using(crate::proofs::TurnLemmas::without_found, crate::proofs::TurnLemmas::without_passed, crate::proofs::TurnLemmas::without_none))]
     fn place_of(&self, fd: u16) -> Option<usize>
         ensures { IsPlaceFor (openings_of self.now) fd result }
     {
@@ -88,6 +89,7 @@ impl PiecePoller {
     }
 
     /// Reports the first openings, as many as one poll may, and puts them behind the others.
+    #[tactic(auto, using(crate::proofs::TurnLemmas::turn_goes_on, crate::proofs::TurnLemmas::turn_given, crate::proofs::TurnLemmas::turn_after))]
     fn go_round(&mut self, out: &mut Reports)
         requires { out.old ≡ [] }
         ensures given { out.new ≡ reports_in_turn (openings_of self.old) }
@@ -109,8 +111,7 @@ impl Poller for PiecePoller {
     type Listener = PieceListener;
 
     ghost use Rattle.std.specs.Prelude.{None};
-    ghost use Rattle.piece_net.specs.PiecePolls.{IsPoll, faults_of};
-    ghost use Rattle.piece_net.proofs.PollLemmas.{polls_leave};
+    ghost use Rattle.piece_net.specs.PiecePolls.{IsPoll, Keeping, calls_of, faults_of, openings_of};
 
     ghost meaning = { record { faults = faults_of; polled = λ _. None; polls = IsPoll } };
 
@@ -147,5 +148,5 @@ impl Poller for PiecePoller {
         PollOut::Polled
     }
 
-    ghost polls_alone = { λ old idle result out new polls. polls_leave old idle result out new polls };
+    ghost polls_alone = { λ old idle result out new polls. polls.leaves };
 }

@@ -2,7 +2,7 @@
 ghost use Rattle.std.specs.Prelude.{◌≡◌, ◌≤◌, All, IfOk};
 ghost use Rattle.outside.specs.ListenCauses.{IsUntouched};
 ghost use Rattle.outside.specs.PieceLink.{told_of as link_told};
-ghost use Rattle.piece_net.specs.PieceListeners.{GivesUntouched};
+ghost use Rattle.piece_net.specs.AcceptEvents.{GivesUntouched};
 
 mod causes;
 

@@ -1,11 +1,8 @@
 -- To be believed: a front in memory, what it will hand out and what it tells.
 use Rattle.std.specs.Prelude.{◌≡◌, ℕ, ◌⊎◌, Bool, false, IsTrue, List, All, Option, Some, None, option_map, string_bytes}
-use Rattle.outside.specs.declared.files.RootOut.{RootOut}
 use Rattle.outside.specs.declared.files.RootOut.TheVariants.{Present}
 use Rattle.outside.specs.FileCauses.{FilesTold}
 use Rattle.piece_net.specs.declared.piece_listener.PieceListener.{PieceListener}
-use Rattle.piece_net.specs.declared.piece_poller.PiecePoller.{PiecePoller}
-use Rattle.warp_jobs.specs.declared.kit.Kit.{Kit}
 use Rattle.warp_front.specs.declared.front.ListenOut.{ListenOut}
 use Rattle.warp_front.specs.declared.front.ListenOut.TheVariants as Listens
 use Rattle.warp_front.specs.Fronts.{FrontTold}
@@ -24,3 +21,7 @@ abbrev pub HandsOut : Bool → Option PieceListener → ListenOut PieceListener 
 HandsOut failing old (Listens.Listening listener) new = (failing ≡ false) × (old ≡ Some listener) × (new ≡ None)
 HandsOut failing old Listens.Failed new = (IsTrue failing ⊎ (old ≡ None)) × (new ≡ old)
 HandsOut failing old Listens.NoMemory new = ⊥
+
+-- the last look of files for their root was for this one, and it was there
+abbrev pub IsRootedAt : List ℕ → FilesTold → Type 0
+IsRootedAt root files = files.rooted ≡ Some (root, Present)

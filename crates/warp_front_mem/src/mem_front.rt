@@ -1,9 +1,9 @@
 //! What a server begins with, in memory.
-ghost use Rattle.std.specs.Prelude.{◌≡◌, ◌<◌, ◌≤◌, ⊥, All, IfOk, IfSome, None, [], drop, length};
+ghost use Rattle.std.specs.Prelude.{◌≡◌, ◌≤◌, All, ForSome, IfOk, [], drop, length};
+ghost use Rattle.std.proofs.Props.{props};
 ghost use Rattle.warp_books.specs.Books.{IsBookOf};
 ghost use Rattle.warp_front.specs.Fronts.{AskedForKits, AskedToListen, IfListening, IfMade, IsUnheard};
 ghost use Rattle.piece_net.specs.PieceListeners.{told_of as listener_told};
-ghost use Rattle.warp_front_mem.specs.MemFronts.{AreRootedAt, HandsOut, front_told, fresh_front, kits_of, listener_of};
 
 use outside::{Clock, Count, Files, PieceLink, RootOut};
 use piece_net::{PieceListener, PiecePoller};
@@ -30,8 +30,8 @@ pub struct MemFront<F: Files, C, B: Book<Finished<PieceLink, F>>, G> {
     place: Option<Place>,
     root: Option<String>,
     faults: Count,
-    ghost unheard: { IfSome listener (λ l. IsUnheard (listener_told l)) },
-    ghost empty: { All (λ kit. IsBookOf [] (B.told kit.book)) kits.items },
+    ghost unheard: { ForSome listener (λ l. IsUnheard (listener_told l)) } by { Prim.hlevel props },
+    ghost empty: { All (λ kit. IsBookOf [] (B.told kit.book)) kits.items } by { Prim.hlevel props },
 }
 
 /// How handing out kits ended early.
@@ -42,6 +42,8 @@ enum Refusal {
 }
 
 impl<F: Files + Drop, C: Drop, B: Book<Finished<PieceLink, F>>, G: Drop> MemFront<F, C, B, G> {
+    ghost use Rattle.warp_front_mem.specs.MemFronts.{IsRootedAt, fresh_front, front_told};
+
     /// A front of which nothing was asked. `failing` says whether its calls to listen fail.
     ///
     /// The caller owes that nothing was asked of the listener, and that the books are empty.
@@ -67,7 +69,13 @@ impl<F: Files + Drop, C: Drop, B: Book<Finished<PieceLink, F>>, G: Drop> MemFron
     }
 
     /// The first kit, whose files lie below the root.
-    fn rooted(&mut self, root: &str) -> Result<Kit<PiecePoller, F, C, B, G>, Refusal> {
+    fn rooted(&mut self, root: &str) -> Result<Kit<PiecePoller, F, C, B, G>, Refusal>
+        ensures book { IfOk result (λ kit. IsBookOf [] (B.told kit.book)) }
+        ensures there { IfOk result (λ kit. IsRootedAt root.now (F.told kit.files)) }
+        ensures left { self.new.kits.items ≡ drop 1 self.old.kits.items }
+        ensures listener { self.new.listener ≡ self.old.listener }
+        ensures told { front_told self.new ≡ front_told self.old }
+    {
         let Some(mut kit) = self.kits.pop_front() else {
             return Err(Refusal::Failed);
         };
@@ -83,7 +91,14 @@ impl<F: Files + Drop, C: Drop, B: Book<Finished<PieceLink, F>>, G: Drop> MemFron
         &mut self,
         root: &str,
         count: usize,
-    ) -> Result<Vec<Kit<PiecePoller, F, C, B, G>>, Refusal> {
+    ) -> Result<Vec<Kit<PiecePoller, F, C, B, G>>, Refusal>
+        ensures count { IfOk result (λ kits. length kits.items ≡ count) }
+        ensures books { IfOk result (λ kits. All (λ kit. IsBookOf [] (B.told kit.book)) kits.items) }
+        ensures there { IfOk result (λ kits. All (λ kit. IsRootedAt root.now (F.told kit.files)) kits.items) }
+        ensures enough { IfOk result (λ _. count ≤ length self.old.kits.items) }
+        ensures listener { self.new.listener ≡ self.old.listener }
+        ensures told { front_told self.new ≡ front_told self.old }
+    {
         if self.kits.len() < count {
             return Err(Refusal::Failed);
         }
@@ -91,7 +106,8 @@ impl<F: Files + Drop, C: Drop, B: Book<Finished<PieceLink, F>>, G: Drop> MemFron
             return Err(Refusal::NoMemory);
         };
         for _given in 0..count {
-            given.push_reserved(self.rooted(root)?);
+            let kit = self.rooted(root)?;
+            given.push_reserved(kit);
         }
         Ok(given)
     }
@@ -114,11 +130,15 @@ where
 
     type Gate = G;
 
-    ghost use Rattle.warp_front_mem.specs.MemFronts.{front_told};
+    ghost use Rattle.warp_front_mem.specs.MemFronts.{HandsOut, IsRootedAt, front_told};
 
     ghost told = { front_told };
 
-    fn listen(&mut self, address: [u8; 4], port: u16) -> ListenOut<PieceListener> {
+    fn listen(&mut self, address: [u8; 4], port: u16) -> ListenOut<PieceListener>
+        ensures unheard { IfListening result (λ listener. IsUnheard (listener_told listener)) }
+        ensures asked { AskedToListen result address port (front_told self.old) (front_told self.new) }
+        ensures hands { HandsOut self.old.failing self.old.listener result self.new.listener }
+    {
         self.place = Some(Place { address, port });
         if self.failing {
             self.faults.rise();
@@ -133,7 +153,15 @@ where
         }
     }
 
-    fn kits(&mut self, root: &str, count: usize) -> KitsOut<Kit<PiecePoller, F, C, B, G>> {
+    fn kits(&mut self, root: &str, count: usize) -> KitsOut<Kit<PiecePoller, F, C, B, G>>
+        requires { (1 ≤ count) × (count ≤ 64) }
+        ensures count { IfMade result (λ kits. length kits ≡ count) }
+        ensures books { IfMade result (λ kits. All (λ kit. IsBookOf [] (B.told kit.book)) kits) }
+        ensures asked { AskedForKits result root.now (front_told self.old) (front_told self.new) }
+        ensures enough { IfMade result (λ _. count ≤ length self.old.kits.items) }
+        ensures there { IfMade result (λ kits. All (λ kit. IsRootedAt root.now (F.told kit.files)) kits) }
+        ensures listener { self.new.listener ≡ self.old.listener }
+    {
         let Ok(text) = String::from_str(self.alloc, root) else {
             return KitsOut::NoMemory;
         };
