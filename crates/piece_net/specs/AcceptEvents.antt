@@ -1,5 +1,6 @@
 -- To be believed: what the events of a scripted listener say, accept by accept.
-use Rattle.std.specs.Prelude.{◌≡◌, List, [], ◌∷◌, Option, Some, None, ForSome}
+use Rattle.std.specs.Prelude.{◌≡◌, List, [], ◌∷◌, Option, Some, None}
+use Rattle.std.specs.Option.{ForSome}
 use Rattle.outside.specs.declared.listener.AcceptOut.{AcceptOut}
 use Rattle.outside.specs.declared.listener.AcceptOut.TheVariants as Accepts
 use Rattle.outside.specs.declared.piece_link.PieceLink.{PieceLink}

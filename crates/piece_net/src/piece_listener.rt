@@ -65,7 +65,7 @@ impl Listener for PieceListener {
 
     ghost told = { told_of };
 
-    #[tactic(auto, using(crate::proofs::EventLemmas::first_given, crate::proofs::EventLemmas::others_given))]
+    #[tactic(auto, using(crate::proofs::EventLemmas::first_given))]
     fn accept(&mut self) -> AcceptOut<PieceLink>
         ensures untouched { IfAccepted result (λ link. IsUntouched (link_told link)) }
         ensures planned { IfAccepted result (λ link. IsPlannedAt (told_of self.old).plans (told_of self.old).accepted (link_told link).plan) }

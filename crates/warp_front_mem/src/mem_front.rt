@@ -1,5 +1,6 @@
 //! What a server begins with, in memory.
-ghost use Rattle.std.specs.Prelude.{◌≡◌, ◌≤◌, All, ForSome, IfOk, [], drop, length};
+ghost use Rattle.std.specs.Prelude.{◌≡◌, ◌≤◌, All, IfOk, [], drop, length};
+ghost use Rattle.std.specs.Option.{ForSome};
 ghost use Rattle.std.proofs.Props.{props};
 ghost use Rattle.warp_books.specs.Books.{IsBookOf};
 ghost use Rattle.warp_front.specs.Fronts.{AskedForKits, AskedToListen, IfListening, IfMade, IsUnheard};

@@ -6,11 +6,13 @@ use Rattle.warp_front_mem.proofs.mem_front.MemFront.handed_out.Given as goal
 
 -- so many kits were taken, with empty books and below the root
 abbrev pub invariant-loop-given : goal.invariant-loop-given
-invariant-loop-given l =
-    (l._given ≤ l.count)
-    × (length l.given.items ≡ l._given)
-    × (vec_capacity l.given ≡ l.count)
-    × All (λ kit. IsBookOf [] (l.B.told kit.book)) l.given.items
-    × All (λ kit. IsRootedAt l.root (l.F.told kit.files)) l.given.items
-    × (l.self.listener ≡ l.fn.self.listener)
-    × (front_told l.self ≡ front_told l.fn.self)
+invariant-loop-given g l = record {
+  within : l._given ≤ l.count;
+  count : length l.given.items ≡ l._given;
+  room : vec_capacity l.given ≡ l.count;
+  enough : l.count ≤ length l.fn.self.kits.items;
+  books : All (λ kit. IsBookOf [] (g.B.Book.told kit.book)) l.given.items;
+  there : All (λ kit. IsRootedAt l.root (g.F.Files.told kit.files)) l.given.items;
+  listener : l.self.listener ≡ l.fn.self.listener;
+  told : front_told l.self ≡ front_told l.fn.self;
+}
