@@ -30,7 +30,7 @@ type Files = MemFiles<LoadPlace>;
 
 type MemKit = Kit<PiecePoller, Files, MemClock, SentBook, FreeGate>;
 
-type Front = MemFront<Files, MemClock, SentBook, FreeGate>;
+type Front = MemFront<Files, MemClock, FreeGate>;
 
 type MemHost = Host<PieceLink, Files, MemClock, MemSink, MemSink, Front>;
 

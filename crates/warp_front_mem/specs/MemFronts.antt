@@ -9,7 +9,7 @@ use Rattle.warp_front.specs.Fronts.{FrontTold}
 use Rattle.warp_front_mem.specs.declared.mem_front.MemFront.{MemFront}
 
 -- where it was to listen last, the root of the kits that it was asked for last, and how many faults there were
-abbrev pub front_told : {F C B G : Type 0} → MemFront F C B G → FrontTold
+abbrev pub front_told : {F C G : Type 0} → MemFront F C G → FrontTold
 front_told front = record { place = option_map (λ place. (place.address, place.port)) front.place; root = option_map string_bytes front.root; faults = front.faults.n }
 
 -- nothing was asked of it

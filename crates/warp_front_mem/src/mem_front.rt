@@ -5,12 +5,13 @@ ghost use Rattle.std.proofs.Props.{props};
 ghost use Rattle.warp_books.specs.Books.{IsBookOf};
 ghost use Rattle.warp_front.specs.Fronts.{AskedForKits, AskedToListen, IfListening, IfMade, IsUnheard};
 ghost use Rattle.piece_net.specs.PieceListeners.{told_of as listener_told};
+ghost use Rattle.warp_front_mem.specs.SentBooks.{sent_told};
 
-use outside::{Clock, Count, Files, PieceLink, RootOut};
+use crate::sent_book::SentBook;
+use outside::{Clock, Count, Files, RootOut};
 use piece_net::{PieceListener, PiecePoller};
 use std::alloc::Global;
 use std::collections::VecDeque;
-use warp_books::{Book, Finished};
 use warp_front::{Front, KitsOut, ListenOut};
 use warp_jobs::{Gate, Kit};
 
@@ -23,16 +24,16 @@ struct Place {
 
 /// What a server begins with, in memory: a listener, which it hands out once, and kits, which it hands out in order.
 #[derive(Drop)]
-pub struct MemFront<F: Files, C, B: Book<Finished<PieceLink, F>>, G> {
+pub struct MemFront<F, C, G> {
     alloc: Global,
     listener: Option<PieceListener>,
-    kits: VecDeque<Kit<PiecePoller, F, C, B, G>>,
+    kits: VecDeque<Kit<PiecePoller, F, C, SentBook, G>>,
     failing: bool,
     place: Option<Place>,
     root: Option<String>,
     faults: Count,
     ghost unheard: { ForSome listener (λ l. IsUnheard (listener_told l)) } by { Prim.hlevel props },
-    ghost empty: { All (λ kit. IsBookOf [] (B.told kit.book)) kits.items } by { Prim.hlevel props },
+    ghost empty: { All (λ kit. IsBookOf [] (sent_told kit.book)) kits.items } by { Prim.hlevel props },
 }
 
 /// How handing out kits ended early.
@@ -42,7 +43,7 @@ enum Refusal {
     NoMemory,
 }
 
-impl<F: Files + Drop, C: Drop, B: Book<Finished<PieceLink, F>>, G: Drop> MemFront<F, C, B, G> {
+impl<F: Files + Drop, C: Drop, G: Drop> MemFront<F, C, G> {
     ghost use Rattle.warp_front_mem.specs.MemFronts.{IsRootedAt, fresh_front, front_told};
 
     /// A front of which nothing was asked. `failing` says whether its calls to listen fail.
@@ -51,11 +52,11 @@ impl<F: Files + Drop, C: Drop, B: Book<Finished<PieceLink, F>>, G: Drop> MemFron
     pub fn new(
         alloc: Global,
         listener: PieceListener,
-        kits: Vec<Kit<PiecePoller, F, C, B, G>>,
+        kits: Vec<Kit<PiecePoller, F, C, SentBook, G>>,
         failing: bool,
-    ) -> MemFront<F, C, B, G>
+    ) -> MemFront<F, C, G>
         requires unheard { IsUnheard (listener_told listener) }
-        requires empty { All (λ kit. IsBookOf [] (B.told kit.book)) kits.items }
+        requires empty { All (λ kit. IsBookOf [] (sent_told kit.book)) kits.items }
         ensures told { front_told result ≡ fresh_front }
     {
         MemFront {
@@ -70,8 +71,8 @@ impl<F: Files + Drop, C: Drop, B: Book<Finished<PieceLink, F>>, G: Drop> MemFron
     }
 
     /// The first kit, whose files lie below the root.
-    fn rooted(&mut self, root: &str) -> Result<Kit<PiecePoller, F, C, B, G>, Refusal>
-        ensures book { IfOk result (λ kit. IsBookOf [] (B.told kit.book)) }
+    fn rooted(&mut self, root: &str) -> Result<Kit<PiecePoller, F, C, SentBook, G>, Refusal>
+        ensures book { IfOk result (λ kit. IsBookOf [] (sent_told kit.book)) }
         ensures there { IfOk result (λ kit. IsRootedAt root.now (F.told kit.files)) }
         ensures left { self.new.kits.items ≡ drop 1 self.old.kits.items }
         ensures listener { self.new.listener ≡ self.old.listener }
@@ -92,9 +93,9 @@ impl<F: Files + Drop, C: Drop, B: Book<Finished<PieceLink, F>>, G: Drop> MemFron
         &mut self,
         root: &str,
         count: usize,
-    ) -> Result<Vec<Kit<PiecePoller, F, C, B, G>>, Refusal>
+    ) -> Result<Vec<Kit<PiecePoller, F, C, SentBook, G>>, Refusal>
         ensures count { IfOk result (λ kits. length kits.items ≡ count) }
-        ensures books { IfOk result (λ kits. All (λ kit. IsBookOf [] (B.told kit.book)) kits.items) }
+        ensures books { IfOk result (λ kits. All (λ kit. IsBookOf [] (sent_told kit.book)) kits.items) }
         ensures there { IfOk result (λ kits. All (λ kit. IsRootedAt root.now (F.told kit.files)) kits.items) }
         ensures enough { IfOk result (λ _. count ≤ length self.old.kits.items) }
         ensures listener { self.new.listener ≡ self.old.listener }
@@ -114,11 +115,10 @@ impl<F: Files + Drop, C: Drop, B: Book<Finished<PieceLink, F>>, G: Drop> MemFron
     }
 }
 
-impl<F, C, B, G> Front for MemFront<F, C, B, G>
+impl<F, C, G> Front for MemFront<F, C, G>
 where
     F: Files + Send + Drop,
     C: Clock + Send + Drop,
-    B: Book<Finished<PieceLink, F>> + Send,
     G: Gate + Send + Drop,
 {
     type Poller = PiecePoller;
@@ -127,7 +127,7 @@ where
 
     type Clock = C;
 
-    type Book = B;
+    type Book = SentBook;
 
     type Gate = G;
 
@@ -154,10 +154,10 @@ where
         }
     }
 
-    fn kits(&mut self, root: &str, count: usize) -> KitsOut<Kit<PiecePoller, F, C, B, G>>
+    fn kits(&mut self, root: &str, count: usize) -> KitsOut<Kit<PiecePoller, F, C, SentBook, G>>
         requires { (1 ≤ count) × (count ≤ 64) }
         ensures count { IfMade result (λ kits. length kits ≡ count) }
-        ensures books { IfMade result (λ kits. All (λ kit. IsBookOf [] (B.told kit.book)) kits) }
+        ensures books { IfMade result (λ kits. All (λ kit. IsBookOf [] (sent_told kit.book)) kits) }
         ensures asked { AskedForKits result root.now (front_told self.old) (front_told self.new) }
         ensures enough { IfMade result (λ _. count ≤ length self.old.kits.items) }
         ensures there { IfMade result (λ kits. All (λ kit. IsRootedAt root.now (F.told kit.files)) kits) }
