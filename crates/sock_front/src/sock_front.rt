@@ -52,7 +52,7 @@ impl<'a, R> SockFront<'a, R> {
     }
 }
 
-impl<'a, R: Net + rt::Files + rt::Clock + Sync> SockFront<'a, R>
+impl<'a, R: Net + rt::Files + rt::Clock> SockFront<'a, R>
 where
     R::File: FileExt,
 {
@@ -99,8 +99,6 @@ where
     type Files = OsFiles<'a, R>;
 
     type Clock = OsClock<'a, R>;
-
-    type Book = SumBook;
 
     type Gate = FreeGate;
 

@@ -1,6 +1,7 @@
 //! What a program is run with, and the call that runs it.
 ghost use Rattle.std.specs.Prelude.{◌≡◌, ◌≤◌, None, IfSome, MatchOption, map, string_bytes};
 ghost use Rattle.outside.specs.Causes.{IsFresh, LinkTold};
+ghost use Rattle.warp_books.specs.EndCounts.{book_told};
 ghost use Rattle.warp_commands.specs.declared.status.Status.TheVariants as Exit;
 ghost use Rattle.warp_commands.specs.Driven.{DrivesTo, WasDriven};
 ghost use Rattle.warp_commands.specs.Runs.{HostTold, Runs};
@@ -55,7 +56,7 @@ where
     requires unserved { (host.old.served ≡ None) × (host.old.driven ≡ None) }
 
     // What was done is what the words ask for, and the status has its cause there.
-    ensures runs { IsStatus result (λ status. Runs N.Book.told N.Poller.meaning.faults F.folder (words_read (map string_bytes words.now)) status
+    ensures runs { IsStatus result (λ status. Runs book_told N.Poller.meaning.faults F.folder (words_read (map string_bytes words.now)) status
         (record { link = L.told host.old.link; files = F.told host.old.files; clock = C.told host.old.clock; out = O.told host.old.out; front = N.told host.old.front })
         (record { link = L.told host.new.link; files = F.told host.new.files; clock = C.told host.new.clock; out = O.told host.new.out; front = N.told host.new.front })
         host.new.served host.new.driven) }
@@ -81,7 +82,7 @@ where
     <N::Files as Files>::File: Send,
     requires fresh { IsFresh (L.told host.old.link) }
     requires unserved { (host.old.served ≡ None) × (host.old.driven ≡ None) }
-    ensures runs { Runs N.Book.told N.Poller.meaning.faults F.folder (words_read (map string_bytes words.now)) result
+    ensures runs { Runs book_told N.Poller.meaning.faults F.folder (words_read (map string_bytes words.now)) result
         (record { link = L.told host.old.link; files = F.told host.old.files; clock = C.told host.old.clock; out = O.told host.old.out; front = N.told host.old.front })
         (record { link = L.told host.new.link; files = F.told host.new.files; clock = C.told host.new.clock; out = O.told host.new.out; front = N.told host.new.front })
         host.new.served host.new.driven }

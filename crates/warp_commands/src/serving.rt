@@ -5,6 +5,7 @@ ghost use Rattle.outside.specs.FileCauses.{AskedRoot};
 ghost use Rattle.outside.specs.SinkCauses.{SinkTold};
 ghost use Rattle.poller.specs.Faults.{PollerFaults};
 ghost use Rattle.warp_books.specs.Books.{IsBookOf};
+ghost use Rattle.warp_books.specs.EndCounts.{book_told};
 ghost use Rattle.warp_commands.specs.Driven.{Prints, accepted_in, number_line};
 ghost use Rattle.warp_commands.specs.ServiceWords.{IsService, service_shown};
 ghost use Rattle.warp_commands.specs.Serving.{EndsServing, HasListened, RefusesToServe, ServesFolder, ServingTold};
@@ -17,6 +18,7 @@ use poller::Poller;
 use std::alloc::Global;
 use std::sync::Wait;
 use std::thread::Threads;
+use warp_books::SumBook;
 use warp_core::{ServeEnd, Served, serve_loop};
 use warp_front::{Front, KitsOut, ListenOut};
 use warp_jobs::Kit;
@@ -29,7 +31,7 @@ pub type ServedBy<N> = Served<
     <N as Front>::Poller,
     <N as Front>::Files,
     <N as Front>::Clock,
-    <N as Front>::Book,
+    SumBook,
     <N as Front>::Gate,
 >;
 
@@ -41,7 +43,7 @@ type Begun<N> = (
             <N as Front>::Poller,
             <N as Front>::Files,
             <N as Front>::Clock,
-            <N as Front>::Book,
+            SumBook,
             <N as Front>::Gate,
         >,
     >,
@@ -65,7 +67,7 @@ where
     <N::Files as Files>::File: Send,
     requires service { IsService service }
     requires unserved { served.old ≡ None }
-    ensures { ServesFolder N.Book.told N.Poller.meaning.faults result root.now (service_shown service)
+    ensures { ServesFolder book_told N.Poller.meaning.faults result root.now (service_shown service)
         (record { files = F.told files.old; out = O.told out.old; front = N.told front.old })
         (record { files = F.told files.new; out = O.told out.new; front = N.told front.new })
         served.new }
@@ -101,7 +103,7 @@ fn begin<F: Files, N: Front>(
 ) -> Result<Begun<N>, Status>
     requires service { IsService service }
     ensures count { IfOk result (λ begun. length begun.1.items ≡ service.dispatchers) }
-    ensures books { IfOk result (λ begun. All (λ kit. IsBookOf [] (N.Book.told kit.book)) begun.1.items) }
+    ensures books { IfOk result (λ begun. All (λ kit. IsBookOf [] (book_told kit.book)) begun.1.items) }
     ensures listener { IfOk result (λ begun. (N.Poller.Listener.told begun.0).failed_row ≡ 0) }
     ensures rooted { IfOk result (λ begun. AskedRoot Roots.Present root.now (F.told files.old) (F.told files.new)) }
     ensures listened { IfOk result (λ begun. HasListened root.now (service_shown service) (N.told front.old) (N.told front.new)) }

@@ -1,11 +1,12 @@
 // What a server asks for before it serves. What contracts know of a front is one record.
 ghost use Rattle.std.specs.Prelude.{◌≡◌, ◌<◌, ◌≤◌, [], All, length};
 ghost use Rattle.warp_books.specs.Books.{IsBookOf};
+ghost use Rattle.warp_books.specs.EndCounts.{book_told};
 ghost use Rattle.warp_front.specs.Fronts.{AskedForKits, AskedToListen, FrontTold, IfListening, IfMade, IsUnheard};
 
 use outside::{Clock, Files};
 use poller::Poller;
-use warp_books::{Book, Finished};
+use warp_books::SumBook;
 use warp_jobs::{Gate, Kit};
 
 /// What a call to listen answers.
@@ -38,8 +39,6 @@ pub trait Front {
 
     type Clock: Clock + Send + Drop;
 
-    type Book: Book<Finished<<Self::Poller as Poller>::Link, Self::Files>> + Send;
-
     type Gate: Gate + Send + Drop;
 
     // What was asked of it, and how many faults there were.
@@ -59,9 +58,9 @@ pub trait Front {
         &mut self,
         root: &str,
         count: usize,
-    ) -> KitsOut<Kit<Self::Poller, Self::Files, Self::Clock, Self::Book, Self::Gate>>
+    ) -> KitsOut<Kit<Self::Poller, Self::Files, Self::Clock, SumBook, Self::Gate>>
         requires { (1 ≤ count) × (count ≤ 64) }
         ensures count { IfMade result (λ kits. length kits ≡ count) }
-        ensures books { IfMade result (λ kits. All (λ kit. IsBookOf [] (Self.Book.told kit.book)) kits) }
+        ensures books { IfMade result (λ kits. All (λ kit. IsBookOf [] (book_told kit.book)) kits) }
         ensures asked { AskedForKits result root.now (told self.old) (told self.new) };
 }

@@ -17,8 +17,6 @@ impl Front for NoFront {
 
     type Clock = MemClock;
 
-    type Book = SumBook;
-
     type Gate = FreeGate;
 
     ghost use Rattle.std.specs.Prelude.{None};

@@ -1,4 +1,4 @@
-use Rattle.std.proofs.Common.{[], ap, subst, sym, length, length-append, arith, List}
+use Rattle.std.proofs.Common.{[], ap, subst, sym, length, length-append, arith}
 use Rattle.std.specs.Prelude.{All}
 use Rattle.std.proofs.lemmas.List.Elements.{All-push}
 use Rattle.warp_books.specs.Books.{IsBookOf}
