@@ -6,29 +6,27 @@ ghost use Rattle.piece_net.specs.AcceptEvents.{GivesUntouched};
 
 mod causes;
 
+use conn_loop::End;
 use outside::{MemClock, MemFiles, MemSink, PieceLink, ReadEvent};
 use piece_net::{AcceptEvent, PieceListener, PiecePoller};
 use std::alloc::{AllocError, Global};
 use std::sync::Wait;
 use std::thread::Threads;
+use warp_books::{Finish, SumBook};
 use warp_commands::{Host, run};
-use warp_front_mem::{MemFront, SentBook};
+use warp_front_mem::MemFront;
 use warp_jobs::{FreeGate, Kit};
 use warp_load::{LOAD_MOMENT, LoadPlace, load_files};
 
 /// A request for the page of the folder.
 const ASKED: &[u8] = b"GET / HTTP/1.1\r\nHost: a\r\n\r\n";
 
-/// Its answer.
-const ANSWER: &[u8] =
-    b"HTTP/1.1 200 OK\r\nDate: Sun, 06 Nov 1994 08:49:37 GMT\r\nServer: warp-profile\r\nContent-Type: text/html; charset=utf-8\r\nContent-Length: 3\r\n\r\nhi\n";
-
 /// Room for what one link is sent.
 const ROOM: usize = 300;
 
 type Files = MemFiles<LoadPlace>;
 
-type MemKit = Kit<PiecePoller, Files, MemClock, SentBook, FreeGate>;
+type MemKit = Kit<PiecePoller, Files, MemClock, SumBook, FreeGate>;
 
 type Front = MemFront<Files, MemClock, FreeGate>;
 
@@ -91,13 +89,14 @@ fn asking(alloc: Global) -> Result<PieceLink, AllocError>
     PieceLink::new(alloc, reads, Vec::new(alloc), ROOM)
 }
 
-/// What a server leaves: the status, the two streams, and what each link was sent.
+/// What a server leaves: the status, the two streams, how many connections ended cleanly, and how many bytes were sent.
 #[derive(Drop)]
 struct Outcome {
     status: u8,
     out: Vec<u8>,
     errors: Vec<u8>,
-    sent: Vec<Vec<u8>>,
+    clean: u64,
+    bytes: u64,
 }
 
 /// Serves with so many dispatchers until so many connections are over.
@@ -122,11 +121,13 @@ fn served<R: Threads + Wait + Sync>(
     }
     let mut host = host_of(alloc, scene)?;
     let status = run(rt, alloc, &words, &mut host);
+    let (clean, bytes) = booked(&host);
     Ok(Outcome {
         status,
         out: host.out.bytes().to_vec(alloc)?,
         errors: host.errors.bytes().to_vec(alloc)?,
-        sent: sent_by(alloc, &host)?,
+        clean,
+        bytes,
     })
 }
 
@@ -164,22 +165,22 @@ fn kits_of(alloc: Global, count: usize, failing: &[u64]) -> Result<Vec<MemKit>, 
             poller: PiecePoller::new(alloc, failing.to_vec(alloc)?),
             files: MemFiles::new(alloc, load_files(alloc)?, true, Vec::new(alloc)),
             clock: clock(alloc)?,
-            book: SentBook::new(alloc),
+            book: SumBook::new(),
             gate: FreeGate,
         })?;
     }
     Ok(kits)
 }
 
-/// What each link was sent that a server served to its end.
-fn sent_by(alloc: Global, host: &MemHost) -> Result<Vec<Vec<u8>>, AllocError> {
-    let mut all = Vec::new(alloc);
+/// What the books of a server add up to: how many connections ended cleanly, and how many bytes were sent.
+fn booked(host: &MemHost) -> (u64, u64) {
+    let mut clean = 0u64;
+    let mut bytes = 0u64;
     if let Some(served) = &host.served {
         for kit in &served.kits {
-            for sent in kit.book.sent() {
-                all.push(sent.to_vec(alloc)?)?;
-            }
+            clean = clean.saturating_add(kit.book.ends(Finish::Ended(End::Clean)));
+            bytes = bytes.saturating_add(kit.book.bytes());
         }
     }
-    Ok(all)
+    (clean, bytes)
 }

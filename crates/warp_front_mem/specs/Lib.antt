@@ -1,2 +1,1 @@
 pub mod MemFronts
-pub mod SentBooks

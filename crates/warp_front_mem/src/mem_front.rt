@@ -3,15 +3,16 @@ ghost use Rattle.std.specs.Prelude.{◌≡◌, ◌≤◌, All, IfOk, [], drop, l
 ghost use Rattle.std.specs.Option.{ForSome};
 ghost use Rattle.std.proofs.Props.{props};
 ghost use Rattle.warp_books.specs.Books.{IsBookOf};
+ghost use Rattle.warp_books.specs.EndCounts.{book_told};
 ghost use Rattle.warp_front.specs.Fronts.{AskedForKits, AskedToListen, IfListening, IfMade, IsUnheard};
 ghost use Rattle.piece_net.specs.PieceListeners.{told_of as listener_told};
-ghost use Rattle.warp_front_mem.specs.SentBooks.{sent_told};
+ghost use Rattle.warp_front_mem.specs.SumBooks.{book_told};
 
-use crate::sent_book::SentBook;
 use outside::{Clock, Count, Files, RootOut};
 use piece_net::{PieceListener, PiecePoller};
 use std::alloc::Global;
 use std::collections::VecDeque;
+use warp_books::SumBook;
 use warp_front::{Front, KitsOut, ListenOut};
 use warp_jobs::{Gate, Kit};
 
@@ -27,13 +28,13 @@ struct Place {
 pub struct MemFront<F, C, G> {
     alloc: Global,
     listener: Option<PieceListener>,
-    kits: VecDeque<Kit<PiecePoller, F, C, SentBook, G>>,
+    kits: VecDeque<Kit<PiecePoller, F, C, SumBook, G>>,
     failing: bool,
     place: Option<Place>,
     root: Option<String>,
     faults: Count,
     ghost unheard: { ForSome listener (λ l. IsUnheard (listener_told l)) } by { Prim.hlevel props },
-    ghost empty: { All (λ kit. IsBookOf [] (sent_told kit.book)) kits.items } by { Prim.hlevel props },
+    ghost empty: { All (λ kit. IsBookOf [] (book_told kit.book)) kits.items } by { Prim.hlevel props },
 }
 
 /// How handing out kits ended early.
@@ -52,11 +53,11 @@ impl<F: Files + Drop, C: Drop, G: Drop> MemFront<F, C, G> {
     pub fn new(
         alloc: Global,
         listener: PieceListener,
-        kits: Vec<Kit<PiecePoller, F, C, SentBook, G>>,
+        kits: Vec<Kit<PiecePoller, F, C, SumBook, G>>,
         failing: bool,
     ) -> MemFront<F, C, G>
         requires unheard { IsUnheard (listener_told listener) }
-        requires empty { All (λ kit. IsBookOf [] (sent_told kit.book)) kits.items }
+        requires empty { All (λ kit. IsBookOf [] (book_told kit.book)) kits.items }
         ensures told { front_told result ≡ fresh_front }
     {
         MemFront {
@@ -71,8 +72,8 @@ impl<F: Files + Drop, C: Drop, G: Drop> MemFront<F, C, G> {
     }
 
     /// The first kit, whose files lie below the root.
-    fn rooted(&mut self, root: &str) -> Result<Kit<PiecePoller, F, C, SentBook, G>, Refusal>
-        ensures book { IfOk result (λ kit. IsBookOf [] (sent_told kit.book)) }
+    fn rooted(&mut self, root: &str) -> Result<Kit<PiecePoller, F, C, SumBook, G>, Refusal>
+        ensures book { IfOk result (λ kit. IsBookOf [] (book_told kit.book)) }
         ensures there { IfOk result (λ kit. IsRootedAt root.now (F.told kit.files)) }
         ensures left { self.new.kits.items ≡ drop 1 self.old.kits.items }
         ensures listener { self.new.listener ≡ self.old.listener }
@@ -93,9 +94,9 @@ impl<F: Files + Drop, C: Drop, G: Drop> MemFront<F, C, G> {
         &mut self,
         root: &str,
         count: usize,
-    ) -> Result<Vec<Kit<PiecePoller, F, C, SentBook, G>>, Refusal>
+    ) -> Result<Vec<Kit<PiecePoller, F, C, SumBook, G>>, Refusal>
         ensures count { IfOk result (λ kits. length kits.items ≡ count) }
-        ensures books { IfOk result (λ kits. All (λ kit. IsBookOf [] (sent_told kit.book)) kits.items) }
+        ensures books { IfOk result (λ kits. All (λ kit. IsBookOf [] (book_told kit.book)) kits.items) }
         ensures there { IfOk result (λ kits. All (λ kit. IsRootedAt root.now (F.told kit.files)) kits.items) }
         ensures enough { IfOk result (λ _. count ≤ length self.old.kits.items) }
         ensures listener { self.new.listener ≡ self.old.listener }
@@ -127,8 +128,6 @@ where
 
     type Clock = C;
 
-    type Book = SentBook;
-
     type Gate = G;
 
     ghost use Rattle.warp_front_mem.specs.MemFronts.{HandsOut, IsRootedAt, front_told};
@@ -154,10 +153,10 @@ where
         }
     }
 
-    fn kits(&mut self, root: &str, count: usize) -> KitsOut<Kit<PiecePoller, F, C, SentBook, G>>
+    fn kits(&mut self, root: &str, count: usize) -> KitsOut<Kit<PiecePoller, F, C, SumBook, G>>
         requires { (1 ≤ count) × (count ≤ 64) }
         ensures count { IfMade result (λ kits. length kits ≡ count) }
-        ensures books { IfMade result (λ kits. All (λ kit. IsBookOf [] (sent_told kit.book)) kits) }
+        ensures books { IfMade result (λ kits. All (λ kit. IsBookOf [] (book_told kit.book)) kits) }
         ensures asked { AskedForKits result root.now (front_told self.old) (front_told self.new) }
         ensures enough { IfMade result (λ _. count ≤ length self.old.kits.items) }
         ensures there { IfMade result (λ kits. All (λ kit. IsRootedAt root.now (F.told kit.files)) kits) }
