@@ -6,7 +6,6 @@ ghost use Rattle.warp_books.specs.Books.{IsBookOf};
 ghost use Rattle.warp_books.specs.EndCounts.{book_told};
 ghost use Rattle.warp_front.specs.Fronts.{AskedForKits, AskedToListen, IfListening, IfMade, IsUnheard};
 ghost use Rattle.piece_net.specs.PieceListeners.{told_of as listener_told};
-ghost use Rattle.warp_front_mem.specs.SumBooks.{book_told};
 
 use outside::{Clock, Count, Files, RootOut};
 use piece_net::{PieceListener, PiecePoller};
