@@ -1,0 +1,3 @@
+pub mod AcceptEvents
+pub mod PieceListeners
+pub mod PiecePolls
