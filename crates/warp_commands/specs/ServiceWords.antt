@@ -1,5 +1,6 @@
 -- To be believed: how the words that name a service are read.
-use Rattle.std.specs.Prelude.{ℕ, ◌≤◌, ◌×◌, ◌==◌, List, [], ◌∷◌, length, Option, Some, None, IfSome, Bor, option_and_then, option_map, nat_lt, if◌then◌else◌}
+use Rattle.std.specs.Prelude.{ℕ, ◌≤◌, ◌==◌, List, [], ◌∷◌, length, Option, Some, None, IfSome, option_and_then, option_map, nat_lt, if◌then◌else◌}
+use Rattle.std.specs.Borrow.{Bor}
 use Rattle.std.specs.List.{before_first, after_first, position_or_len}
 use Rattle.warp_load.specs.LoadWords.{dispatchers_read, number_read, number_within}
 use Rattle.warp_commands.specs.declared.service.Service.{Service}

@@ -1,5 +1,5 @@
 // What a server is to do: where it listens, with how many dispatchers, how long, and when a connection has timed out.
-ghost use Rattle.std.specs.Prelude.{◌≡◌, ◌≤◌, IsSome, option_and_then, option_map};
+ghost use Rattle.std.specs.Prelude.{◌≡◌, ◌≤◌, IfSome, option_and_then, option_map};
 ghost use Rattle.warp_load.specs.LoadWords.{number_read, number_within};
 ghost use Rattle.warp_commands.specs.ServiceWords.{HasRanges, address_read, dot_split, octet_read, parts_shown, service_read, service_shown};
 
@@ -77,7 +77,8 @@ fn octet_in(word: &str) -> Option<u8>
 
 /// The number that a word is, where it lies in a range.
 fn number_from(word: &str, least: u64, most: u64) -> Option<u64>
-    ensures { result ≡ option_and_then (number_within least most) (number_read word.now) }
+    ensures reads { result ≡ option_and_then (number_within least most) (number_read word.now) }
+    ensures within { IfSome result (λ number. (least ≤ number) × (number ≤ most)) }
 {
     let number = number_in(word)?;
     if (least..=most).contains(&number) {

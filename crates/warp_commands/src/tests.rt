@@ -7,7 +7,6 @@ mod bodies;
 mod cuts;
 mod drives;
 mod files;
-mod no_front;
 mod services;
 
 use crate::run_connection;

@@ -1,5 +1,5 @@
 -- What holds of dispatchers that are taken apart, said of their passes and kits.
-use Rattle.std.proofs.Common.{◌≡◌, ℕ, List, [], ◌∷◌, map, length, All, sym, ap, ◌∙◌, subst, arith}
+use Rattle.std.proofs.Common.{◌≡◌, ℕ, zero, suc, ◌<◌, List, [], ◌∷◌, map, length, get_or, inl, inr, All, sym, ap, ◌∙◌, subst, arith}
 use Rattle.std.proofs.lemmas.List.Elements.{All-cons, All-nil}
 use Rattle.outside.specs.declared.files.Files.{Ghosts}
 use Rattle.turn_cell.specs.declared.view.View.{View}
@@ -17,16 +17,17 @@ use Rattle.warp_passes.specs.declared.shared.ServePass.{ServePass}
 use Rattle.warp_passes.specs.Own.{entries_of}
 use Rattle.warp_passes.specs.Passes.{PassView, AreOf, pass_view}
 use Rattle.warp_passes.specs.Levels.{ArePassesLevel}
-use Rattle.warp_runner.specs.Journal.{Fits}
+use Rattle.warp_runner.specs.Journal.{Deed, DidOne, Fits}
 use Rattle.warp_core.specs.declared.row.Row.{Row}
 use Rattle.warp_core.specs.declared.served.ServeEnd.{ServeEnd}
 use Rattle.warp_core.specs.declared.served.ServeEnd.TheVariants.{Over, PollFault, AcceptFault, Spent, NoMemory}
 use Rattle.warp_tally.specs.Accounts.{accepts, accepts_any, finishes, finishes_any, turns_away}
-use Rattle.warp_core.specs.Ends.{EndsSo, IsOver}
+use Rattle.warp_core.specs.Ends.{EndsSo, HasCause, IsOver}
 use Rattle.warp_core.specs.Stops.{stops}
-use Rattle.warp_core.specs.Journals.{AreExplained, told_at}
+use Rattle.warp_core.specs.Journals.{AreExplained, SomeDid, told_at}
 use Rattle.warp_core.specs.Making.{HasParts}
-use Rattle.warp_core.specs.Rows.{Serves, known_by, passes_of, told_by}
+use Rattle.warp_core.specs.Rows.{OneDid, Serves, known_by, passes_of, told_by}
+use Rattle.warp_core.proofs.Caused.{cause_on}
 use Rattle.warp_core.proofs.RowLists.{head_or, tail_of}
 
 module _ {A B L : Type 0} (known : B → PassView L) (part : A → B) where
@@ -77,10 +78,27 @@ module _ {P F C B G L I X : Type 0} {H : Ghosts F X} (told : B → BookTold) (fa
       let serves = All-head (λ z. Serves told faults s z) row rows serve in
       let book : kit.book ≡ row.runner.book = ap (head_or kit.book) same in
       let limit_is = All-head (λ (z : Row P F C B G L I X H). z.runner.limit ≡ limit) row rows limits in
-      let one : Fits limit (told_by told row) [] = subst (λ (n : ℕ). Fits n (told_by told row) []) limit_is serves.fits in (
+      let one : Fits limit (told_by told row) [] = subst (λ (n : ℕ). Fits n (told_by told row) []) limit_is serves.fits.0 in (
         subst (λ (b : B). Fits limit (record (told_by told row) { book = told b }) []) (sym book) one,
         explained_by rows kits (ap tail_of same) (All-tail (λ z. Serves told faults s z) row rows serve) (All-tail (λ (z : Row P F C B G L I X H). z.runner.limit ≡ limit) row rows limits),
       )
+
+  -- what one of them did stands at its place
+  did_at : (Is : Deed → Type 0) (rows : List (Row P F C B G L I X H)) (kits : List (Kit P F C B G)) → map (λ kit. kit.book) kits ≡ map (λ row. row.runner.book) rows
+      → (k : ℕ) (one : Row P F C B G L I X H) → k < length rows → get_or rows k one ≡ one → DidOne limit Is (told_by told one) → SomeDid told limit (map passes_of rows) kits Is
+  did_at Is [] kits same k one lt at did = absurd (omega arith)
+  did_at Is (row ∷ rows) [] same k one lt at did = let n : 0 ≡ length (map (λ (r : Row P F C B G L I X H). r.runner.book) (row ∷ rows)) = ap length same in absurd (omega arith)
+  did_at Is (row ∷ rows) (kit ∷ kits) same zero one lt at did =
+      let book : kit.book ≡ row.runner.book = ap (head_or kit.book) same in
+      inl (subst (λ (b : B). DidOne limit Is (record (told_by told row) { book = told b })) (sym book)
+      (subst (λ (r : Row P F C B G L I X H). DidOne limit Is (told_by told r)) (sym at) did))
+  did_at Is (row ∷ rows) (kit ∷ kits) same (suc k) one lt at did = inr (did_at Is rows kits (ap tail_of same) k one (omega arith) at did)
+
+  pub caused_apart : (end : ServeEnd) (rows : List (Row P F C B G L I X H)) (passes : List (ServePass (Job P F L I X) F X H)) (kits : List (Kit P F C B G)) → HasParts rows passes kits
+      → HasCause end (OneDid told limit rows) → HasCause end (SomeDid told limit passes kits)
+  caused_apart end rows passes kits parts cause = subst (λ (ps : List (ServePass (Job P F L I X) F X H)). HasCause end (SomeDid told limit ps kits)) (sym parts.passes_are)
+      (cause_on end (OneDid told limit rows) (SomeDid told limit (map passes_of rows) kits)
+      (λ Is any. did_at Is rows kits parts.books any.0 any.1 any.2 any.3 any.4) cause)
 
   pub explained_apart : (rows : List (Row P F C B G L I X H)) (passes : List (ServePass (Job P F L I X) F X H)) (kits : List (Kit P F C B G)) → HasParts rows passes kits
       → All (λ row. Serves told faults s row) rows → All (λ row. row.runner.limit ≡ limit) rows → AreExplained told limit passes kits

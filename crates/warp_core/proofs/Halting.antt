@@ -1,6 +1,6 @@
 -- Why a dispatcher makes no further turn, as its passes grow, and what the end of the server rests on then.
 use Rattle.std.proofs.Common.{refl, ◌≡◌, ℕ, ◌+◌, ◌≤◌, List, [], ◌∷◌, ◌++◌, map, length, get_or, All, sym, ap, ◌∙◌, subst, ⊎_elim, arith}
-use Rattle.std.specs.Prelude.{slice_get, Some, None, Option, Any, IfSome, IsSomeAnd}
+use Rattle.std.specs.Prelude.{◌⊎◌, slice_get, Some, None, Option, Any, IfSome, IsSomeAnd}
 use Rattle.std.proofs.lemmas.Option.{slice_get-get_or}
 use mathlib.Core.List.{IsPrefix}
 use Rattle.turn_cell.specs.declared.view.View.{View}
@@ -12,12 +12,15 @@ use Rattle.dispatcher.specs.Stripes.{HasGrown}
 use Rattle.warp_tally.specs.declared.calls.TallyEntry.{TallyEntry}
 use Rattle.warp_passes.specs.Own.{entries_of}
 use Rattle.warp_passes.specs.Passes.{PassView}
+use Rattle.dispatcher.specs.Firings.{Jobs}
+use Rattle.warp_runner.specs.Acts.{ServeTold}
+use Rattle.warp_runner.specs.Journal.{FitsUntil}
 use Rattle.warp_core.specs.Ends.{EndsSo}
 use Rattle.warp_core.specs.declared.row.Halted.{Halted}
 use Rattle.warp_core.specs.declared.row.Halted.TheVariants as Halts
 use Rattle.warp_core.specs.declared.served.ServeEnd.{ServeEnd}
 use Rattle.warp_core.specs.declared.served.ServeEnd.TheVariants.{Over, PollFault, AcceptFault, Spent, NoMemory}
-use Rattle.warp_core.specs.Rows.{HaltsBy}
+use Rattle.warp_core.specs.Rows.{HaltsBy, stop_in}
 use Rattle.warp_core.specs.Settling.{EndOf, ShowsOver}
 use Rattle.warp_core.specs.Stops.{stops}
 use Rattle.warp_core.proofs.RowLists.{weigh_one_of}
@@ -82,3 +85,14 @@ module _ {A L : Type 0} (known : A → PassView L) (polls : A → ℕ) where
   ends_shown limit (Some AcceptFault) xs shows = absurd shows
   ends_shown limit (Some Spent) xs shows = tt
   ends_shown limit (Some NoMemory) xs shows = absurd shows
+
+-- what of a journal is known without the code with which a deed stopped
+pub forget : {limit : ℕ} {stop : Option ℕ} {u : ServeTold} {jobs : Jobs} → FitsUntil limit stop u jobs → FitsUntil limit None u jobs
+forget fits = (fits.0, tt)
+
+-- a dispatcher may halt with the code of its journal, or with none
+pub halts_as : {limit : ℕ} {u : ServeTold} {jobs : Jobs} (halted : Halted) (code : ℕ) → (stop_in (Some halted) ≡ None) ⊎ (stop_in (Some halted) ≡ Some code)
+    → FitsUntil limit (Some code) u jobs → FitsUntil limit (stop_in (Some halted)) u jobs
+halts_as {limit} {u} {jobs} halted code is fits = ⊎_elim
+    (λ a. subst (λ (o : Option ℕ). FitsUntil limit o u jobs) (sym a) (fits.0, tt))
+    (λ b. subst (λ (o : Option ℕ). FitsUntil limit o u jobs) (sym b) fits) is

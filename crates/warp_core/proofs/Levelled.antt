@@ -23,45 +23,51 @@ use Rattle.warp_passes.specs.Own.{entries_of}
 use Rattle.warp_passes.specs.Passes.{IsLawfulPass, PassRest, lawful_of}
 use Rattle.warp_passes.specs.Levels.{OwnsTheSame}
 use Rattle.warp_runner.specs.Acts.{ServeTold, fired_weight, is_all_out}
-use Rattle.warp_runner.specs.Journal.{Deed, Fits, all_of}
+use Rattle.warp_runner.specs.Journal.{Deed, FitsUntil, all_of}
 use Rattle.warp_core.specs.declared.row.Row.{Row}
 use Rattle.warp_core.specs.declared.row.Halted.{Halted}
 use Rattle.warp_core.specs.declared.row.Halted.TheVariants as Halts
-use Rattle.warp_core.specs.Rows.{Beside, IsRowOf, HaltsBy, Serves, beside_of, known_by, passes_of, told_by}
+use Rattle.warp_core.specs.Rows.{Beside, IsRowOf, HaltsBy, Serves, beside_of, known_by, passes_of, stop_in, told_by}
 use Rattle.warp_core.specs.Stops.{stops}
 use Rattle.warp_core.proofs.RowLists.{head_or, tail_of}
 
 -- a journal explains as much where what was done weighs the same and is the same
-pub fits_same : (limit : ℕ) (u w : ServeTold) (jobs : Jobs) → ((f : Entry → ℕ) → own_weight f w.mgr ≡ own_weight f u.mgr) → ((f : NumbersEntry → ℕ) → number_weight f w.mgr ≡ number_weight f u.mgr)
-    → w.tallied ≡ u.tallied → w.timed ≡ u.timed → w.book ≡ u.book → Fits limit u jobs → Fits limit w jobs
-fits_same limit u w jobs calls draws tallied timed book fits = record {
-  deeds = fits.deeds;
-  explains = record {
-    calls = λ f of. calls f ∙ fits.explains.calls f of;
-    fired = λ φ. calls (fired_weight φ) ∙ fits.explains.fired φ;
-    all_out = draws (λ e. is_all_out e.call e.reply) ∙ fits.explains.all_out;
-    tallied = tallied ∙ fits.explains.tallied;
-    timed = timed ∙ fits.explains.timed;
-    book = subst (λ (b : BookTold). IsBookOf (all_of (λ (d : Deed). d.acts.handed) fits.deeds) b) (sym book) fits.explains.book;
-    lawful = fits.explains.lawful;
-  };
-}
+pub fits_same : (limit : ℕ) (stop : Option ℕ) (u w : ServeTold) (jobs : Jobs) → ((f : Entry → ℕ) → own_weight f w.mgr ≡ own_weight f u.mgr) → ((f : NumbersEntry → ℕ) → number_weight f w.mgr ≡ number_weight f u.mgr)
+    → w.tallied ≡ u.tallied → w.timed ≡ u.timed → w.book ≡ u.book → FitsUntil limit stop u jobs → FitsUntil limit stop w jobs
+fits_same limit stop u w jobs calls draws tallied timed book fits = (
+  record {
+    deeds = fits.0.deeds;
+    explains = record {
+      calls = λ f of. calls f ∙ fits.0.explains.calls f of;
+      fired = λ φ. calls (fired_weight φ) ∙ fits.0.explains.fired φ;
+      all_out = draws (λ e. is_all_out e.call e.reply) ∙ fits.0.explains.all_out;
+      tallied = tallied ∙ fits.0.explains.tallied;
+      timed = timed ∙ fits.0.explains.timed;
+      book = subst (λ (b : BookTold). IsBookOf (all_of (λ (d : Deed). d.acts.handed) fits.0.deeds) b) (sym book) fits.0.explains.book;
+      lawful = fits.0.explains.lawful;
+    };
+  },
+  fits.1,
+)
 
 -- nothing was done
 pub fits_first : (limit : ℕ) (w : ServeTold) → ((f : Entry → ℕ) → own_weight f w.mgr ≡ 0) → ((f : NumbersEntry → ℕ) → number_weight f w.mgr ≡ 0)
-    → w.tallied ≡ [] → w.timed ≡ [] → IsBookOf [] w.book → Fits limit w []
-fits_first limit w calls draws tallied timed book = record {
-  deeds = [];
-  explains = record {
-    calls = λ f of. calls f;
-    fired = λ φ. calls (fired_weight φ);
-    all_out = draws (λ e. is_all_out e.call e.reply);
-    tallied = tallied;
-    timed = timed;
-    book = book;
-    lawful = tt;
-  };
-}
+    → w.tallied ≡ [] → w.timed ≡ [] → IsBookOf [] w.book → FitsUntil limit None w []
+fits_first limit w calls draws tallied timed book = (
+  record {
+    deeds = [];
+    explains = record {
+      calls = λ f of. calls f;
+      fired = λ φ. calls (fired_weight φ);
+      all_out = draws (λ e. is_all_out e.call e.reply);
+      tallied = tallied;
+      timed = timed;
+      book = book;
+      lawful = tt;
+    };
+  },
+  tt,
+)
 
 halts_cases : (p q : ℕ) (t u : View TallyEntry) (h : Option Halted) → q ≡ p → entries_of u ≡ entries_of t → HaltsBy p t h → HaltsBy q u h
 halts_cases p q t u None polls tally halts = tt
@@ -80,8 +86,9 @@ module _ {P F C B G L I X : Type 0} {H : Ghosts F X} (told : B → BookTold) (fa
       let book : told y.runner.book ≡ told x.runner.book = ap (λ (z : Beside). z.book) beside in
       let limit : y.runner.limit ≡ x.runner.limit = ap (λ (z : Beside). z.limit) beside in record {
         own = own;
-        fits = subst (λ (n : ℕ). Fits n (told_by told y) []) (sym limit)
-            (fits_same x.runner.limit (told_by told x) (told_by told y) [] owns.calls owns.draws owns.tallied timed book serves.fits);
+        fits = subst (λ (n : ℕ). FitsUntil n (stop_in y.halted) (told_by told y) []) (sym limit)
+            (subst (λ (h : Option Halted). FitsUntil x.runner.limit (stop_in h) (told_by told y) []) (sym (ap (λ (z : Beside). z.halted) beside))
+            (fits_same x.runner.limit (stop_in x.halted) (told_by told x) (told_by told y) [] owns.calls owns.draws owns.tallied timed book serves.fits));
         halts = halts_same (faults x.runner.poller).polls (faults y.runner.poller).polls (view_of x.runner.tallied) (view_of y.runner.tallied) x.halted y.halted
             (ap (λ (z : Beside). z.polls) beside) owns.tallied (ap (λ (z : Beside). z.halted) beside) serves.halts;
       }

@@ -1,4 +1,6 @@
 pub mod Apart
+pub mod Beating
+pub mod Caused
 pub mod Filling
 pub mod Halting
 pub mod Levelled

@@ -14,10 +14,11 @@ use Rattle.warp_passes.specs.Passes.{PassView, AreOf, IsLawfulPass, lawful_of, p
 use Rattle.warp_passes.specs.Levels.{AreNewPasses, DidNothing, IsNew}
 use Rattle.std.proofs.lemmas.List.Elements.{All-cons}
 use Rattle.level.proofs.Lists.{All-head, All-tail, map_map}
+use Rattle.warp_runner.specs.Journal.{FitsUntil}
 use Rattle.warp_core.specs.declared.row.Row.{Row}
 use Rattle.warp_core.specs.declared.row.Halted.{Halted}
 use Rattle.warp_core.specs.Making.{IsPlain}
-use Rattle.warp_core.specs.Rows.{HaltsBy, Serves, known_by, passes_of, told_by}
+use Rattle.warp_core.specs.Rows.{HaltsBy, Serves, known_by, passes_of, stop_in, told_by}
 use Rattle.warp_core.proofs.Apart.{all_parts}
 use Rattle.warp_core.proofs.Levelled.{fits_first}
 
@@ -42,7 +43,8 @@ module _ {P F C B G L I X : Type 0} {H : Ghosts F X} (told : B → BookTold) (fa
       let book : IsBookOf [] (told row.runner.book) = each_row (λ (r : Row P F C B G L I X H). r.runner.book) (λ b. IsBookOf [] (told b)) rows (map (λ (kit : Kit P F C B G). kit.book) kits) books all k d lt in
       record {
         own = record { passes = own; shared = (plain k d lt).shared };
-        fits = fits_first row.runner.limit (told_by told row) none.calls none.draws none.tallied none.timed book;
+        fits = subst (λ (h : Option Halted). FitsUntil row.runner.limit (stop_in h) (told_by told row) []) (sym (plain k d lt).goes_on)
+            (fits_first row.runner.limit (told_by told row) none.calls none.draws none.tallied none.timed book);
         halts = subst (λ (h : Option Halted). HaltsBy (faults row.runner.poller).polls (view_of row.runner.tallied) h) (sym (plain k d lt).goes_on) tt;
       }
 

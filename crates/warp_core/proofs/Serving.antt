@@ -30,10 +30,10 @@ use Rattle.warp_passes.specs.TallyCalls.{IsTallyOf, TallyEntered}
 use Rattle.warp_passes.specs.Passes.{PassView}
 use Rattle.warp_passes.specs.Levels.{HasPassGrown}
 use Rattle.warp_runner.specs.Acts.{AreOfCells, HaveGrown}
-use Rattle.warp_runner.specs.Journal.{Fits}
+use Rattle.warp_runner.specs.Journal.{FitsUntil}
 use Rattle.warp_core.specs.declared.row.Row.{Row}
 use Rattle.warp_core.specs.declared.row.Halted.{Halted}
-use Rattle.warp_core.specs.Rows.{HasGoneOn, IsRowOf, HaltsBy, Serves, known_by, passes_of, told_by}
+use Rattle.warp_core.specs.Rows.{HasGoneOn, IsRowOf, HaltsBy, Serves, known_by, passes_of, stop_in, told_by}
 use Rattle.warp_core.proofs.Halting.{halts_on}
 
 module _ {L : Type 0} where
@@ -88,7 +88,7 @@ module _ {P F C B G L I X : Type 0} {H : Ghosts F X} (told : B → BookTold) (fa
   -- a dispatcher serves on, where its journal goes on and it halts as before
   pub serves_on : (x y : Row P F C B G L I X H) → Serves told faults s x → Turns.AreOf s.mgr s.queue y.disp
       → AreOfCells (arc_value y.runner.shared).times y.runner.timed (arc_value y.runner.shared).cache y.runner.cached (arc_value y.runner.shared).tally y.runner.tallied
-      → y.runner.shared ≡ x.runner.shared → Fits y.runner.limit (told_by told y) [] → (faults x.runner.poller).polls ≤ (faults y.runner.poller).polls
+      → y.runner.shared ≡ x.runner.shared → FitsUntil y.runner.limit (stop_in y.halted) (told_by told y) [] → (faults x.runner.poller).polls ≤ (faults y.runner.poller).polls
       → HasGrown (view_of x.runner.tallied) (view_of y.runner.tallied) → y.halted ≡ x.halted → Serves told faults s y
   serves_on x y serves disp cells same fits polls tally halted = record {
     own = own_on s x y serves.own disp cells same;
@@ -101,7 +101,7 @@ module _ {P F C B G L I X : Type 0} {H : Ghosts F X} (told : B → BookTold) (fa
   -- the same, where it is said anew why it halts
   pub serves_with : (x y : Row P F C B G L I X H) → Serves told faults s x → Turns.AreOf s.mgr s.queue y.disp
       → AreOfCells (arc_value y.runner.shared).times y.runner.timed (arc_value y.runner.shared).cache y.runner.cached (arc_value y.runner.shared).tally y.runner.tallied
-      → y.runner.shared ≡ x.runner.shared → Fits y.runner.limit (told_by told y) [] → HaltsBy (faults y.runner.poller).polls (view_of y.runner.tallied) y.halted → Serves told faults s y
+      → y.runner.shared ≡ x.runner.shared → FitsUntil y.runner.limit (stop_in y.halted) (told_by told y) [] → HaltsBy (faults y.runner.poller).polls (view_of y.runner.tallied) y.halted → Serves told faults s y
   serves_with x y serves disp cells same fits halts = record { own = own_on s x y serves.own disp cells same; fits = fits; halts = halts }
 
 -- a stop that was counted or not stands among what the pass did

@@ -6,6 +6,8 @@ use Rattle.warp_tally.specs.declared.calls.TallyEntry.{TallyEntry}
 use Rattle.warp_tally.specs.Accounts.{accepts, accepts_any, finishes, finishes_any, turns_away}
 use Rattle.warp_passes.specs.Own.{entries_of}
 use Rattle.warp_passes.specs.Passes.{PassView}
+use Rattle.warp_runner.specs.Causes.{IsBroken, IsStarved}
+use Rattle.warp_runner.specs.Journal.{Deed}
 use Rattle.warp_core.specs.declared.served.Counts.{Counts}
 use Rattle.warp_core.specs.declared.served.ServeEnd.{ServeEnd}
 use Rattle.warp_core.specs.declared.served.ServeEnd.TheVariants.{Over, PollFault, AcceptFault, Spent, NoMemory}
@@ -32,3 +34,11 @@ module _ {A L : Type 0} (known : A → PassView L) where
   EndsSo limit AcceptFault xs faults = 1 ≤ tally_weight (stops 9) xs
   EndsSo limit NoMemory xs faults = 1 ≤ tally_weight (stops 6) xs
   EndsSo limit Spent xs faults = Unit {0}
+
+-- What happened that an end rests on, where that is a deed: a run of the listener after which 1,000 accepts in a row have failed, or one that wanted memory, as also the beginning may
+abbrev pub HasCause : ServeEnd → ((Deed → Type 0) → Type 0) → Type 0
+HasCause (Over counts) SomeDid = Unit {0}
+HasCause PollFault SomeDid = Unit {0}
+HasCause AcceptFault SomeDid = SomeDid IsBroken
+HasCause Spent SomeDid = Unit {0}
+HasCause NoMemory SomeDid = SomeDid IsStarved

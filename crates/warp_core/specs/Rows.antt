@@ -1,5 +1,5 @@
 -- To be believed: a dispatcher between two turns. Its passes are of what all share, and a journal explains what it did.
-use Rattle.std.specs.Prelude.{◌≡◌, ℕ, ◌≤◌, List, [], Option, Some, None}
+use Rattle.std.specs.Prelude.{◌≡◌, ℕ, ◌≤◌, List, [], Any, Option, Some, None}
 use Rattle.std.specs.Arc.{arc_value}
 use Rattle.outside.specs.declared.files.Files.{Ghosts}
 use Rattle.turn_cell.specs.declared.view.View.{View}
@@ -18,7 +18,7 @@ use Rattle.warp_passes.specs.Own.{entries_of}
 use Rattle.warp_passes.specs.Passes.{PassView, PassRest, AreOf, pass_view, rest_of}
 use Rattle.warp_passes.specs.Levels.{HasPassGrown}
 use Rattle.warp_runner.specs.Acts.{ServeTold, told_of}
-use Rattle.warp_runner.specs.Journal.{Fits}
+use Rattle.warp_runner.specs.Journal.{Deed, DidOne, FitsUntil}
 use Rattle.warp_core.specs.Stops.{stops}
 use Rattle.warp_core.specs.declared.row.Row.{Row}
 use Rattle.warp_core.specs.declared.row.Halted.{Halted}
@@ -30,6 +30,13 @@ HaltsBy polls tally None = Unit {0}
 HaltsBy polls tally (Some Halts.PollFault) = 1 ≤ polls
 HaltsBy polls tally (Some (Halts.WithCode code)) = 1 ≤ weigh (stops code) (entries_of tally)
 HaltsBy polls tally (Some Halts.Spent) = Unit {0}
+
+-- the code of the deed that stopped a dispatcher which makes no further turn, if one did
+abbrev pub stop_in : Option Halted → Option ℕ
+stop_in None = None
+stop_in (Some Halts.PollFault) = None
+stop_in (Some (Halts.WithCode code)) = Some code
+stop_in (Some Halts.Spent) = None
 
 module _ {P F C B G L I X : Type 0} {H : Ghosts F X} where
   -- the passes of a dispatcher
@@ -49,11 +56,20 @@ module _ {P F C B G L I X : Type 0} {H : Ghosts F X} where
   abbrev pub told_by : (B → BookTold) → Row P F C B G L I X H → ServeTold
   told_by told row = told_of (mgr_view row.disp.mgr) (view_of row.runner.tallied) (seen_of row.runner.timed) (told row.runner.book)
 
-  -- a dispatcher serves: its passes are of what all share, a journal explains all that it did, and where it makes no further turn it has a cause
+  -- a dispatcher serves: its passes are of what all share, a journal explains all that it did, and where it makes no further turn it has a cause, which is a deed of that journal where it is a code
   pub record Serves (told : B → BookTold) (faults : P → PollerFaults) (s : Shared (Job P F L I X) F X H) (row : Row P F C B G L I X H) : Type 0 where
     pub own : IsRowOf s row
-    pub fits : Fits row.runner.limit (told_by told row) []
+    pub fits : FitsUntil row.runner.limit (stop_in row.halted) (told_by told row) []
     pub halts : HaltsBy (faults row.runner.poller).polls (view_of row.runner.tallied) row.halted
+
+  -- a dispatcher may make no further turn for this: where it is a code, a deed of its journal stopped with it, and where a poll failed, its poller says so
+  pub record MayHalt (told : B → BookTold) (faults : P → PollerFaults) (row : Row P F C B G L I X H) (halted : Halted) : Type 0 where
+    pub stops : FitsUntil row.runner.limit (stop_in (Some halted)) (told_by told row) []
+    pub faulted : halted ≡ Halts.PollFault → 1 ≤ (faults row.runner.poller).polls
+
+  -- one of several dispatchers did so
+  abbrev pub OneDid : (B → BookTold) → ℕ → List (Row P F C B G L I X H) → (Deed → Type 0) → Type 0
+  OneDid told limit rows Is = Any (λ row. DidOne limit Is (told_by told row)) rows
 
   -- a dispatcher went on: its passes forgot nothing and have the seats that they had, and it serves as many links as before
   pub record HasGoneOn (old new : Row P F C B G L I X H) : Type 0 where

@@ -12,9 +12,9 @@ use warp_runner::ServerRunner;
 pub(crate) enum Halted {
     /// Its poller failed, in a poll or in taking the listener.
     PollFault,
-    /// It stopped with this code, and the tally was told so.
+    /// One of its deeds stopped it with this code, and the tally was told so.
     WithCode(u8),
-    /// The tally takes no more calls.
+    /// A stripe, a cell or the queue takes no more calls.
     Spent,
 }
 

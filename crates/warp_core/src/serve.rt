@@ -1,5 +1,5 @@
 //! The server from its listener to its end.
-ghost use Rattle.std.specs.Prelude.{◌≡◌, ◌<◌, ◌≤◌, [], All, IfOk, length, map};
+ghost use Rattle.std.specs.Prelude.{◌≡◌, ◌⊎◌, ◌<◌, ◌≤◌, [], All, IfOk, None, Some, length, map};
 ghost use Rattle.std.specs.Arc.{arc_value};
 ghost use Rattle.turn_cell.specs.Weights.{weigh};
 ghost use Rattle.poller.specs.Faults.{PollerFaults};
@@ -8,9 +8,9 @@ ghost use Rattle.warp_passes.specs.Cells.{SeatsAreOnce};
 ghost use Rattle.warp_passes.specs.Levels.{ArePassesLevel};
 ghost use Rattle.warp_passes.specs.Passes.{AreOf, pass_view};
 ghost use Rattle.warp_core.specs.declared.row.Halted.TheVariants as Halts;
-ghost use Rattle.warp_core.specs.Ends.{EndsSo};
-ghost use Rattle.warp_core.specs.Journals.{AreExplained};
-ghost use Rattle.warp_core.specs.Rows.{HasGoneOn, Serves, known_by};
+ghost use Rattle.warp_core.specs.Ends.{EndsSo, HasCause};
+ghost use Rattle.warp_core.specs.Journals.{AreExplained, SomeDid};
+ghost use Rattle.warp_core.specs.Rows.{HasGoneOn, OneDid, Serves, known_by, stop_in};
 
 use crate::making::{Parts, rows_of};
 use crate::row::{Halted, Row};
@@ -65,6 +65,7 @@ where
     ensures explained { IfOk result (λ served. AreExplained B.told limit served.passes.items served.kits.items) }
     ensures count { IfOk result (λ served. length served.kits.items ≡ length kits.items) }
     ensures ends { IfOk result (λ served. EndsSo pass_view limit served.end served.passes.items (weigh (λ kit. (P.meaning.faults kit.poller).polls) served.kits.items)) }
+    ensures cause { IfOk result (λ served. HasCause served.end (SomeDid B.told limit served.passes.items served.kits.items)) }
     ensures same { IfOk result (λ served. (served.limit ≡ limit) × (served.seconds ≡ seconds)) }
 {
     // A law of seats, for the proof: it does nothing when run.
@@ -116,6 +117,7 @@ where
     requires listener { (P.Listener.told listener).failed_row ≡ 0 }
     ensures serve { All (λ row. Serves B.told P.meaning.faults shared.now row) rows.new × All (λ row. row.runner.limit ≡ limit) rows.new }
     ensures level { ArePassesLevel known_by rows.new }
+    ensures cause { HasCause result (OneDid B.told limit rows.new) }
     ensures ends { EndsSo known_by limit result rows.new (weigh (λ row. (P.meaning.faults row.runner.poller).polls) rows.new) }
 {
     begin(rt, shared, rows, listener);
@@ -171,7 +173,8 @@ fn listen<P: Poller, F: Files, C: Clock, B: Book<Finished<P::Link, F>>, G: Gate,
 
 /// Why a dispatcher makes no turn that couldn't begin to listen.
 fn halted_with(code: u8) -> Halted
-    ensures { result ≡ Halts.PollFault → code ≡ 8 }
+    ensures faulted { result ≡ Halts.PollFault → code ≡ 8 }
+    ensures stops { (stop_in (Some result) ≡ None) ⊎ (stop_in (Some result) ≡ Some code) }
 {
     if code == POLL_FAULT {
         Halted::PollFault
@@ -204,6 +207,7 @@ where
     ensures serve { All (λ row. Serves B.told P.meaning.faults shared.now row) rows.new }
     ensures limit { All (λ row. row.runner.limit ≡ limit) rows.new }
     ensures level { ArePassesLevel known_by rows.new }
+    ensures cause { HasCause result (OneDid B.told limit rows.new) }
     ensures ends { EndsSo known_by limit result rows.new (weigh (λ row. (P.meaning.faults row.runner.poller).polls) rows.new) }
 {
     for _ in rt.forever() {

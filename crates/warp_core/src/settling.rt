@@ -5,8 +5,8 @@ ghost use Rattle.turn_cell.specs.Weights.{weigh};
 ghost use Rattle.poller.specs.Faults.{PollerFaults};
 ghost use Rattle.warp_passes.specs.Cells.{CameLevel, OwnIsKept, SeatsAreOnce};
 ghost use Rattle.warp_passes.specs.Levels.{ArePassesLevel};
-ghost use Rattle.warp_core.specs.Ends.{EndsSo};
-ghost use Rattle.warp_core.specs.Rows.{HasGoneOn, Serves, known_by};
+ghost use Rattle.warp_core.specs.Ends.{EndsSo, HasCause};
+ghost use Rattle.warp_core.specs.Rows.{HasGoneOn, OneDid, Serves, known_by};
 ghost use Rattle.warp_core.specs.Settling.{EndOf, HasLooked, SaysSo, ShowsOver};
 
 use crate::row::{Halted, Row};
@@ -46,6 +46,7 @@ pub(crate) fn settle<
     ensures limit { All (λ row. row.runner.limit ≡ limit) rows.new }
     ensures seats { SeatsAreOnce known_by rows.new }
     ensures level { ArePassesLevel known_by rows.new }
+    ensures cause { IfSome result (λ end. HasCause end (OneDid B.told limit rows.new)) }
     ensures ends { IfSome result (λ end. EndsSo known_by limit end rows.new (weigh (λ row. (P.meaning.faults row.runner.poller).polls) rows.new)) }
 {
     let over = show_over(rt, shared, rows, limit);

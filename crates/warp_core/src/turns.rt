@@ -1,8 +1,8 @@
 //! The turns of a dispatcher, until all is served or one of them stops.
-ghost use Rattle.std.specs.Prelude.{◌≡◌, ◌≤◌, Some};
+ghost use Rattle.std.specs.Prelude.{IfSome};
 ghost use Rattle.poller.specs.Faults.{PollerFaults};
-ghost use Rattle.warp_core.specs.declared.row.Halted.TheVariants as Halts;
-ghost use Rattle.warp_core.specs.Rows.{HasGoneOn, Serves};
+ghost use Rattle.warp_core.specs.Beats.{BeginsWithBeat};
+ghost use Rattle.warp_core.specs.Rows.{HasGoneOn, MayHalt, Serves};
 
 use crate::beat::beat;
 use crate::row::{Halted, Row};
@@ -56,9 +56,10 @@ fn makes_a_round<P: Poller, F: Files, C: Clock, B: Book<Finished<P::Link, F>>, G
     requires { Serves B.told P.meaning.faults shared.now row.old }
     ensures serves { Serves B.told P.meaning.faults shared.now row.new }
     ensures goes_on { HasGoneOn row.old row.new }
+    ensures beats { BeginsWithBeat C.told row.old row.new }
 {
-    if let Some(code) = beat(rt, shared, row) {
-        halt(rt, shared, row, Halted::WithCode(code));
+    if let Some(halted) = beat(rt, shared, row) {
+        halt(rt, shared, row, halted);
         return false;
     }
     match look(rt, shared, row) {
@@ -99,7 +100,7 @@ fn turn_once<P: Poller, F: Files, C: Clock, B: Book<Finished<P::Link, F>>, G: Ga
     requires { Serves B.told P.meaning.faults shared.now row.old }
     ensures serves { Serves B.told P.meaning.faults shared.now row.new }
     ensures goes_on { HasGoneOn row.old row.new }
-    ensures faulted { result ≡ Some Halts.PollFault → 1 ≤ (P.meaning.faults row.new.runner.poller).polls }
+    ensures may_halt { IfSome result (λ halted. MayHalt B.told P.meaning.faults row.new halted) }
 {
     row.reports.clear();
     // A turn is made where nothing has stopped the dispatcher.
@@ -118,11 +119,12 @@ fn turn_once<P: Poller, F: Files, C: Clock, B: Book<Finished<P::Link, F>>, G: Ga
         Turned::Done { .. } => None,
         Turned::PollFault => Some(Halted::PollFault),
         Turned::Stop(code) => Some(Halted::WithCode(code)),
-        Turned::Spent => Some(Halted::WithCode(SPENT)),
+        Turned::Spent => Some(Halted::Spent),
     }
 }
 
-/// The dispatcher makes no further turn. The tally keeps the code if it is the first, so that the others see it.
+/// The dispatcher makes no further turn. The tally keeps the code if it is the first, so that the others see it. A
+/// code that is given here is one with which a deed of the dispatcher stopped it.
 pub(crate) fn halt<P: Poller, F: Files, C: Clock, B: Book<Finished<P::Link, F>>, G: Gate, R: Wait>(
     rt: &R,
     shared: &Shared<Job<P, F>, F>,
@@ -130,7 +132,7 @@ pub(crate) fn halt<P: Poller, F: Files, C: Clock, B: Book<Finished<P::Link, F>>,
     halted: Halted,
 )
     requires serves { Serves B.told P.meaning.faults shared.now row.old }
-    requires faulted { halted ≡ Halts.PollFault → 1 ≤ (P.meaning.faults row.old.runner.poller).polls }
+    requires may_halt { MayHalt B.told P.meaning.faults row.old halted }
     ensures serves { Serves B.told P.meaning.faults shared.now row.new }
     ensures goes_on { HasGoneOn row.old row.new }
 {
@@ -145,7 +147,10 @@ pub(crate) fn halt<P: Poller, F: Files, C: Clock, B: Book<Finished<P::Link, F>>,
             TallyOut::Done(_) => row.halted = Some(Halted::WithCode(code)),
             TallyOut::Spent => row.halted = Some(Halted::Spent),
         },
-        Halted::Spent => row.halted = Some(Halted::Spent),
+        Halted::Spent => {
+            let _ = row.runner.note_stop(rt, SPENT);
+            row.halted = Some(Halted::Spent);
+        }
     }
 }
 

@@ -4,5 +4,7 @@
 #![tactic(auto)]
 
 mod front;
+mod no_front;
 
 pub use front::{Front, KitsOut, ListenOut};
+pub use no_front::NoFront;

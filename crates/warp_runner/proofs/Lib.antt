@@ -9,3 +9,5 @@ mod Turning
 mod AcceptLemmas
 mod Running
 mod TimingOut
+pub mod Stopping
+mod SweptOnce

@@ -13,27 +13,33 @@ use Rattle.warp_jobs.specs.HeldListener.{HeldListener}
 use Rattle.warp_jobs.specs.Tags.{serve_tag, listen_tag}
 use Rattle.warp_runner.specs.Deeds.{IsConnectionRun, IsListenerRun, IsNote, IsStarting, IsSweeping}
 use Rattle.warp_runner.proofs.Registering.{RanSo}
-use Rattle.warp_runner.specs.Journal.{Fits}
-use Rattle.warp_runner.specs.JournalLaws.{fits_then}
+use Rattle.warp_runner.specs.Journal.{Fits, FitsUntil}
+use Rattle.warp_runner.specs.JournalLaws.{until_last, until_then}
 use Rattle.warp_runner.specs.Runs.{HasRun, named}
 use Rattle.outside.specs.ListenCauses.{ListenerTold}
 
 module _ (limit : ℕ) (u w : ServeTold) (rest : Jobs) where
-  pub run_fits : (f : Firing) (jobs : Jobs) (events : List EventName) (stopped : Option ℕ) → jobs ≡ f ∷ [] → HasRun limit f u events stopped w → Fits limit u (jobs ++ rest) → Fits limit w rest
-  run_fits f jobs events stopped is ran fits = fits_then limit u w (record { job = f ∷ []; acts = ran.0; stopped = stopped }) events rest ran.1 (inl (f, refl, ran.2))
+  pub run_fits : (f : Firing) (jobs : Jobs) (events : List EventName) (stopped : Option ℕ) → jobs ≡ f ∷ [] → HasRun limit f u events stopped w → Fits limit u (jobs ++ rest) → FitsUntil limit stopped w rest
+  run_fits f jobs events stopped is ran fits = until_last limit u w (record { job = f ∷ []; acts = ran.0; stopped = stopped }) events rest ran.1 (inl (f, refl, ran.2))
       (subst (λ (l : Jobs). Fits limit u (l ++ rest)) is fits)
 
-  pub dropped_fits : (f : Firing) → Did u nothing [] w → Fits limit u (f ∷ rest) → Fits limit w rest
-  dropped_fits f did fits = fits_then limit u w (record { job = f ∷ []; acts = nothing; stopped = None }) [] rest did (inr (inl (f, refl, refl))) fits
+  pub dropped_fits : (f : Firing) (stop : Option ℕ) → Did u nothing [] w → FitsUntil limit stop u (f ∷ rest) → FitsUntil limit stop w rest
+  dropped_fits f stop did fits = until_then limit u w (record { job = f ∷ []; acts = nothing; stopped = None }) [] rest stop did (inr (inl (f, refl, refl, refl))) fits
 
-  pub sweep_fits : (stopped : Option ℕ) (acts : Acts) (events : List EventName) → Did u acts events w → IsSweeping acts stopped → Fits limit u rest → Fits limit w rest
-  sweep_fits stopped acts events did is fits = fits_then limit u w (record { job = []; acts = acts; stopped = stopped }) events rest did (inr (inr (inl (refl, is)))) fits
+  module _ (acts : Acts) where
+    module _ (stopped : Option ℕ) (events : List EventName) (did : Did u acts events w) where
+      module _ (is : IsSweeping acts stopped) where
+        pub sweep_fits : (stop : Option ℕ) → FitsUntil limit stop u rest → FitsUntil limit stop w rest
+        sweep_fits stop fits = until_then limit u w (record { job = []; acts = acts; stopped = stopped }) events rest stop did (inr (inr (inl (refl, is)))) fits
 
-  pub note_fits : (acts : Acts) → Did u acts [] w → IsNote acts → Fits limit u rest → Fits limit w rest
-  note_fits acts did is fits = fits_then limit u w (record { job = []; acts = acts; stopped = None }) [] rest did (inr (inr (inr (inl (refl, is))))) fits
+        pub sweep_stops : Fits limit u rest → FitsUntil limit stopped w rest
+        sweep_stops fits = until_last limit u w (record { job = []; acts = acts; stopped = stopped }) events rest did (inr (inr (inl (refl, is)))) fits
 
-  pub start_fits : (listener : ListenerTold) (stopped : Option ℕ) (acts : Acts) (events : List EventName) → Did u acts events w → IsStarting listener acts stopped → Fits limit u rest → Fits limit w rest
-  start_fits listener stopped acts events did is fits = fits_then limit u w (record { job = []; acts = acts; stopped = stopped }) events rest did (inr (inr (inr (inr (listener, refl, is))))) fits
+      pub start_fits : (listener : ListenerTold) → IsStarting listener acts stopped → Fits limit u rest → FitsUntil limit stopped w rest
+      start_fits listener is fits = until_last limit u w (record { job = []; acts = acts; stopped = stopped }) events rest did (inr (inr (inr (inr (listener, refl, is))))) fits
+
+    pub note_fits : (stop : Option ℕ) → Did u acts [] w → IsNote acts → FitsUntil limit stop u rest → FitsUntil limit stop w rest
+    note_fits stop did is fits = until_then limit u w (record { job = []; acts = acts; stopped = None }) [] rest stop did (inr (inr (inr (inl (refl, is, refl))))) fits
 
 -- ---- a run of a job
 

@@ -1,5 +1,5 @@
 -- To be believed: the journal of a dispatcher: the deeds that explain all that it did beside reports and dispatches, each of them lawful.
-use Rattle.std.specs.Prelude.{◌≡◌, ◌⊎◌, ℕ, ◌+◌, List, [], ◌∷◌, ◌++◌, Option}
+use Rattle.std.specs.Prelude.{◌≡◌, ◌⊎◌, ℕ, ◌+◌, List, [], ◌∷◌, ◌++◌, Option, Some, None}
 use Rattle.reg_keys.specs.declared.opening.Opening.{Opening}
 use Rattle.reg_keys.specs.declared.event.EventName.{EventName}
 use Rattle.reg_keys.specs.declared.registration.Dirs.{Dirs}
@@ -38,13 +38,13 @@ IsRun limit f acts stopped =
     ((h : Held) × (f.1.kind ≡ Kinds.Job (serve_tag h)) × IsConnectionRun h f.1.marks acts stopped)
     ⊎ ((l : HeldListener) × (f.1.kind ≡ Kinds.Job (listen_tag l)) × IsListenerRun limit l f.1.marks acts stopped)
 
--- what each deed is: a run of a job, a job that was dropped, a sweep, a word with the tally, or the beginning
+-- what each deed is: a run of a job, a job that was dropped, a sweep, a word with the tally, or the beginning. A job that is dropped and a word with the tally stop no dispatcher
 abbrev pub IsDeed : ℕ → Deed → Type 0
 IsDeed limit d =
     ((f : Firing) × (d.job ≡ f ∷ []) × IsRun limit f d.acts d.stopped)
-    ⊎ ((f : Firing) × (d.job ≡ f ∷ []) × (d.acts ≡ nothing))
+    ⊎ ((f : Firing) × (d.job ≡ f ∷ []) × (d.acts ≡ nothing) × (d.stopped ≡ None))
     ⊎ ((d.job ≡ []) × IsSweeping d.acts d.stopped)
-    ⊎ ((d.job ≡ []) × IsNote d.acts)
+    ⊎ ((d.job ≡ []) × IsNote d.acts × (d.stopped ≡ None))
     ⊎ ((listener : ListenerTold) × (d.job ≡ []) × IsStarting listener d.acts d.stopped)
 
 -- each deed is one of these
@@ -71,3 +71,21 @@ pub record Explains (limit : ℕ) (deeds : List Deed) (now : ServeTold) (jobs : 
 pub record Fits (limit : ℕ) (now : ServeTold) (jobs : Jobs) : Type 0 where
   pub deeds : List Deed
   pub explains : Explains limit deeds now jobs
+
+-- one of some deeds is so
+abbrev pub HasOne : (Deed → Type 0) → List Deed → Type 0
+HasOne Is [] = ⊥
+HasOne Is (d ∷ ds) = Is d ⊎ HasOne Is ds
+
+-- where there is a code, one of the deeds stopped the dispatcher with it
+abbrev pub StopsSo : Option ℕ → List Deed → Type 0
+StopsSo None ds = Unit {0}
+StopsSo (Some code) ds = HasOne (λ d. d.stopped ≡ Some code) ds
+
+-- there are such deeds, and where the dispatcher stops with a code one of them stopped it so
+abbrev pub FitsUntil : ℕ → Option ℕ → ServeTold → Jobs → Type 0
+FitsUntil limit stop now jobs = (fits : Fits limit now jobs) × StopsSo stop fits.deeds
+
+-- there are deeds that explain what the dispatcher did, with no job still to be run, and one of them is so
+abbrev pub DidOne : ℕ → (Deed → Type 0) → ServeTold → Type 0
+DidOne limit Is now = (fits : Fits limit now []) × HasOne Is fits.deeds

@@ -1,5 +1,6 @@
 -- Inner: the journal goes on over reports and dispatches, and by one deed more.
-use Rattle.std.proofs.Common.{◌≡◌, ℕ, ◌+◌, ⊎_elim, List, [], ◌∷◌, ◌++◌, map, sym, refl, ap, ◌∙◌, subst, arith, append-nil, append_assoc}
+use Rattle.std.specs.Prelude.{Option, Some, None}
+use Rattle.std.proofs.Common.{◌≡◌, ℕ, ◌+◌, ⊎_elim, inl, inr, List, [], ◌∷◌, ◌++◌, map, sym, refl, ap, ◌∙◌, subst, arith, append-nil, append_assoc}
 use Rattle.reg_keys.specs.declared.opening.Opening.{Opening}
 use Rattle.reg_keys.specs.declared.event.EventName.{EventName}
 use Rattle.reg_keys.specs.declared.registration.Dirs.{Dirs}
@@ -30,76 +31,80 @@ use Rattle.timeout_mgr.specs.declared.view.TimeCall.{TimeCall}
 use Rattle.warp_tally.specs.declared.calls.TallyEntry.{TallyEntry}
 use Rattle.warp_books.specs.Books.{BookTold, FinishedTold, IsBookOf}
 use Rattle.warp_runner.specs.Acts.{Did, HaveGrown, ServeTold, told_of, fired_weight, is_all_out, all_out_in}
-use Rattle.warp_runner.specs.Journal.{AreDeeds, Deed, Fits, IsDeed, IsOfServer, all_of}
+use Rattle.warp_runner.specs.Journal.{AreDeeds, Deed, Explains, Fits, FitsUntil, HasOne, IsDeed, IsOfServer, StopsSo, all_of}
 
 -- a call on a stripe alone tells nothing of the numbers
 pub all_out_kept : (v w : MgrView) → w.numbers ≡ v.numbers → all_out_in w ≡ all_out_in v
 all_out_kept v w same = ap (λ (n : View NumbersEntry). weigh (λ (e : ℕ × NumbersEntry). is_all_out e.1.call e.1.reply) (own_entries n)) same
 
-module _ (limit : ℕ) (t : View TallyEntry) (s : TimeView) (b : BookTold) where
+-- The journal goes on with the same deeds
+module _ (limit : ℕ) (ds : List Deed) (t : View TallyEntry) (s : TimeView) (b : BookTold) where
   -- an entry of a turn's own, which fired these jobs
   turned_on : (k : ℕ) (e : Entry) (v w : MgrView) (jobs more : Jobs) → EnteredAt k e v w → ((f : Entry → ℕ) → IsOfServer f → f e ≡ 0)
-      → ((φ : Firing → ℕ) → fired_weight φ e ≡ total φ more) → Fits limit (told_of v t s b) jobs → Fits limit (told_of w t s b) (jobs ++ more)
-  turned_on k e v w jobs more a none fires fits = record {
-    deeds = fits.deeds;
-    explains = record {
-      calls = λ f of. let x = entered_weighs f k v w e a in let y = fits.explains.calls f of in let z = none f of in omega arith;
-      fired = λ φ. let x = entered_weighs (fired_weight φ) k v w e a in let y = fits.explains.fired φ in let z = fires φ in let q = total_append φ jobs more in omega arith;
-      all_out = all_out_kept v w a.numbers ∙ fits.explains.all_out;
-      tallied = fits.explains.tallied;
-      timed = fits.explains.timed;
-      book = fits.explains.book;
-      lawful = fits.explains.lawful;
-    };
+      → ((φ : Firing → ℕ) → fired_weight φ e ≡ total φ more) → Explains limit ds (told_of v t s b) jobs → Explains limit ds (told_of w t s b) (jobs ++ more)
+  turned_on k e v w jobs more a none fires was = record {
+    calls = λ f of. let x = entered_weighs f k v w e a in let y = was.calls f of in let z = none f of in omega arith;
+    fired = λ φ. let x = entered_weighs (fired_weight φ) k v w e a in let y = was.fired φ in let z = fires φ in let q = total_append φ jobs more in omega arith;
+    all_out = all_out_kept v w a.numbers ∙ was.all_out;
+    tallied = was.tallied;
+    timed = was.timed;
+    book = was.book;
+    lawful = was.lawful;
   }
 
   same_on : (k : ℕ) (e : Entry) (v w : MgrView) (jobs : Jobs) → EnteredAt k e v w → ((f : Entry → ℕ) → IsOfServer f → f e ≡ 0)
-      → ((φ : Firing → ℕ) → fired_weight φ e ≡ 0) → Fits limit (told_of v t s b) jobs → Fits limit (told_of w t s b) jobs
-  same_on k e v w jobs a none fires fits = record {
-    deeds = fits.deeds;
-    explains = record {
-      calls = λ f of. let x = entered_weighs f k v w e a in let y = fits.explains.calls f of in let z = none f of in omega arith;
-      fired = λ φ. let x = entered_weighs (fired_weight φ) k v w e a in let y = fits.explains.fired φ in let z = fires φ in omega arith;
-      all_out = all_out_kept v w a.numbers ∙ fits.explains.all_out;
-      tallied = fits.explains.tallied;
-      timed = fits.explains.timed;
-      book = fits.explains.book;
-      lawful = fits.explains.lawful;
-    };
+      → ((φ : Firing → ℕ) → fired_weight φ e ≡ 0) → Explains limit ds (told_of v t s b) jobs → Explains limit ds (told_of w t s b) jobs
+  same_on k e v w jobs a none fires was = record {
+    calls = λ f of. let x = entered_weighs f k v w e a in let y = was.calls f of in let z = none f of in omega arith;
+    fired = λ φ. let x = entered_weighs (fired_weight φ) k v w e a in let y = was.fired φ in let z = fires φ in omega arith;
+    all_out = all_out_kept v w a.numbers ∙ was.all_out;
+    tallied = was.tallied;
+    timed = was.timed;
+    book = was.book;
+    lawful = was.lawful;
   }
 
-  unmoved_on : (k : ℕ) (v w : MgrView) (jobs : Jobs) → SpentAt k v w → Fits limit (told_of v t s b) jobs → Fits limit (told_of w t s b) jobs
-  unmoved_on k v w jobs a fits = record {
-    deeds = fits.deeds;
-    explains = record {
-      calls = λ f of. let x = spent_weighs f k v w a in let y = fits.explains.calls f of in omega arith;
-      fired = λ φ. let x = spent_weighs (fired_weight φ) k v w a in let y = fits.explains.fired φ in omega arith;
-      all_out = all_out_kept v w a.numbers ∙ fits.explains.all_out;
-      tallied = fits.explains.tallied;
-      timed = fits.explains.timed;
-      book = fits.explains.book;
-      lawful = fits.explains.lawful;
-    };
+  unmoved_on : (k : ℕ) (v w : MgrView) (jobs : Jobs) → SpentAt k v w → Explains limit ds (told_of v t s b) jobs → Explains limit ds (told_of w t s b) jobs
+  unmoved_on k v w jobs a was = record {
+    calls = λ f of. let x = spent_weighs f k v w a in let y = was.calls f of in omega arith;
+    fired = λ φ. let x = spent_weighs (fired_weight φ) k v w a in let y = was.fired φ in omega arith;
+    all_out = all_out_kept v w a.numbers ∙ was.all_out;
+    tallied = was.tallied;
+    timed = was.timed;
+    book = was.book;
+    lawful = was.lawful;
   }
 
-  pub fits_report : (o : Opening) (ds : Dirs) (v : MgrView) (reply : ReportReply) (w : MgrView) (jobs : Jobs) → HasReported o ds v reply w
-      → Fits limit (told_of v t s b) jobs → Fits limit (told_of w t s b) jobs
-  fits_report o ds v reply w jobs h fits = ⊎_elim
-      (λ x. same_on (stripe_of o.fd) (Entries.Report o ds (reply_of_report reply)) v w jobs x.0 (λ f of. of.reports o ds (reply_of_report reply)) (λ _. refl) fits)
-      (λ x. unmoved_on (stripe_of o.fd) v w jobs x.1 fits) h
+  explains_report : (o : Opening) (dirs : Dirs) (v : MgrView) (reply : ReportReply) (w : MgrView) (jobs : Jobs) → HasReported o dirs v reply w
+      → Explains limit ds (told_of v t s b) jobs → Explains limit ds (told_of w t s b) jobs
+  explains_report o dirs v reply w jobs h was = ⊎_elim
+      (λ x. same_on (stripe_of o.fd) (Entries.Report o dirs (reply_of_report reply)) v w jobs x.0 (λ f of. of.reports o dirs (reply_of_report reply)) (λ _. refl) was)
+      (λ x. unmoved_on (stripe_of o.fd) v w jobs x.1 was) h
 
-module _ {T : Type 0} (tag : T → List (List ℕ)) (limit : ℕ) (t : View TallyEntry) (s : TimeView) (b : BookTold) where
-  pub fits_dispatch : (e : EventName) (v : MgrView) (reply : DispatchReply T) (w : MgrView) (jobs : Jobs) → HasDispatched tag e v reply w
-      → Fits limit (told_of v t s b) jobs → Fits limit (told_of w t s b) (with_fired tag e reply jobs)
-  fits_dispatch e v (Dispatch.Ran list n) w jobs h fits = let rs = map (fired_key tag) list in ⊎_elim
-      (λ x. turned_on limit t s b (stripe_of e.opening.fd) (Entries.Dispatch e (Dispatches.Ran rs n)) v w jobs (jobs_of (firings e.opening rs)) x.0 (λ f of. of.dispatches e (Dispatches.Ran rs n)) (λ _. refl) fits)
+module _ {T : Type 0} (tag : T → List (List ℕ)) (limit : ℕ) (ds : List Deed) (t : View TallyEntry) (s : TimeView) (b : BookTold) where
+  explains_dispatch : (e : EventName) (v : MgrView) (reply : DispatchReply T) (w : MgrView) (jobs : Jobs) → HasDispatched tag e v reply w
+      → Explains limit ds (told_of v t s b) jobs → Explains limit ds (told_of w t s b) (with_fired tag e reply jobs)
+  explains_dispatch e v (Dispatch.Ran list n) w jobs h was = let rs = map (fired_key tag) list in ⊎_elim
+      (λ x. turned_on limit ds t s b (stripe_of e.opening.fd) (Entries.Dispatch e (Dispatches.Ran rs n)) v w jobs (jobs_of (firings e.opening rs)) x.0 (λ f of. of.dispatches e (Dispatches.Ran rs n)) (λ _. refl) was)
       (λ x. let z = x.0 in absurd (cc)) h
-  fits_dispatch e v Dispatch.Stale w jobs h fits = ⊎_elim
-      (λ x. same_on limit t s b (stripe_of e.opening.fd) (Entries.Dispatch e Dispatches.Stale) v w jobs x.0 (λ f of. of.dispatches e Dispatches.Stale) (λ _. refl) fits)
-      (λ x. unmoved_on limit t s b (stripe_of e.opening.fd) v w jobs x.1 fits) h
-  fits_dispatch e v (Dispatch.Spent back) w jobs h fits = ⊎_elim
-      (λ x. same_on limit t s b (stripe_of e.opening.fd) (Entries.Dispatch e Dispatches.Spent) v w jobs x.0 (λ f of. of.dispatches e Dispatches.Spent) (λ _. refl) fits)
-      (λ x. unmoved_on limit t s b (stripe_of e.opening.fd) v w jobs x.1 fits) h
+  explains_dispatch e v Dispatch.Stale w jobs h was = ⊎_elim
+      (λ x. same_on limit ds t s b (stripe_of e.opening.fd) (Entries.Dispatch e Dispatches.Stale) v w jobs x.0 (λ f of. of.dispatches e Dispatches.Stale) (λ _. refl) was)
+      (λ x. unmoved_on limit ds t s b (stripe_of e.opening.fd) v w jobs x.1 was) h
+  explains_dispatch e v (Dispatch.Spent back) w jobs h was = ⊎_elim
+      (λ x. same_on limit ds t s b (stripe_of e.opening.fd) (Entries.Dispatch e Dispatches.Spent) v w jobs x.0 (λ f of. of.dispatches e Dispatches.Spent) (λ _. refl) was)
+      (λ x. unmoved_on limit ds t s b (stripe_of e.opening.fd) v w jobs x.1 was) h
+
+module _ (limit : ℕ) (stop : Option ℕ) (t : View TallyEntry) (s : TimeView) (b : BookTold) where
+  pub fits_report : (o : Opening) (ds : Dirs) (v : MgrView) (reply : ReportReply) (w : MgrView) (jobs : Jobs) → HasReported o ds v reply w
+      → FitsUntil limit stop (told_of v t s b) jobs → FitsUntil limit stop (told_of w t s b) jobs
+  fits_report o ds v reply w jobs h fits =
+      (record { deeds = fits.0.deeds; explains = explains_report limit fits.0.deeds t s b o ds v reply w jobs h fits.0.explains }, fits.1)
+
+module _ {T : Type 0} (tag : T → List (List ℕ)) (limit : ℕ) (stop : Option ℕ) (t : View TallyEntry) (s : TimeView) (b : BookTold) where
+  pub fits_dispatch : (e : EventName) (v : MgrView) (reply : DispatchReply T) (w : MgrView) (jobs : Jobs) → HasDispatched tag e v reply w
+      → FitsUntil limit stop (told_of v t s b) jobs → FitsUntil limit stop (told_of w t s b) (with_fired tag e reply jobs)
+  fits_dispatch e v reply w jobs h fits =
+      (record { deeds = fits.0.deeds; explains = explains_dispatch tag limit fits.0.deeds t s b e v reply w jobs h fits.0.explains }, fits.1)
 
 -- ---- one deed more
 
@@ -129,6 +134,34 @@ fits_then limit u w d events rest did is fits = record {
     lawful = lawful_then limit fits.deeds d fits.explains.lawful is;
   };
 }
+
+-- what one of some deeds is, one of more deeds is
+has_more : (Is : Deed → Type 0) (ds : List Deed) (d : Deed) → HasOne Is ds → HasOne Is (ds ++ d ∷ [])
+has_more Is [] d has = absurd has
+has_more Is (x ∷ ds) d has = ⊎_elim (λ a. inl a) (λ b. inr (has_more Is ds d b)) has
+
+has_last : (Is : Deed → Type 0) (ds : List Deed) (d : Deed) → Is d → HasOne Is (ds ++ d ∷ [])
+has_last Is [] d is = inl is
+has_last Is (x ∷ ds) d is = inr (has_last Is ds d is)
+
+stops_more : (stop : Option ℕ) (ds : List Deed) (d : Deed) → StopsSo stop ds → StopsSo stop (ds ++ d ∷ [])
+stops_more None ds d stops = tt
+stops_more (Some code) ds d stops = has_more (λ e. e.stopped ≡ Some code) ds d stops
+
+stops_last : (stop : Option ℕ) (ds : List Deed) (d : Deed) → d.stopped ≡ stop → StopsSo stop (ds ++ d ∷ [])
+stops_last None ds d is = tt
+stops_last (Some code) ds d is = has_last (λ e. e.stopped ≡ Some code) ds d is
+
+module _ (limit : ℕ) (u w : ServeTold) (d : Deed) (events : List EventName) (rest : Jobs) where
+  -- the dispatcher stops as before one deed more
+  pub until_then : (stop : Option ℕ) → Did u d.acts events w → IsDeed limit d → FitsUntil limit stop u (d.job ++ rest) → FitsUntil limit stop w rest
+  unfolding fits_then
+  until_then stop did is fits = (fits_then limit u w d events rest did is fits.0, stops_more stop fits.0.deeds d fits.1)
+
+  -- the dispatcher stops with that deed
+  pub until_last : Did u d.acts events w → IsDeed limit d → Fits limit u (d.job ++ rest) → FitsUntil limit d.stopped w rest
+  unfolding fits_then
+  until_last did is fits = (fits_then limit u w d events rest did is fits, stops_last d.stopped fits.deeds d refl)
 
 pub same_trans : {A : Type 0} (a b c : A) → b ≡ a → c ≡ b → c ≡ a
 same_trans a b c p q = q ∙ p

@@ -32,6 +32,11 @@ abbrev pub begun_by : {E : Type 0} → Result (Option EventName) E → List Even
 begun_by (Ok event) = option_to_list event
 begun_by (Err code) = []
 
+-- the code with which the beginning stopped, if it did
+abbrev pub code_of_start : {A : Type 0} → Result A ℕ → Option ℕ
+code_of_start (Ok event) = None
+code_of_start (Err code) = Some code
+
 -- how far a connection was brought: it waits under the next number, or it is over and may be finished so
 abbrev pub HasBrought : Brought → Held → Held → Type 0
 HasBrought (Waits dir) h k = IsBroughtOn h k × (k.number ≡ h.number + 1)

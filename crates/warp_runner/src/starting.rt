@@ -10,8 +10,8 @@ ghost use Rattle.dispatcher.specs.Firings.{Jobs};
 ghost use Rattle.dispatcher.specs.Runs.{HasMadeCalls};
 ghost use Rattle.warp_runner.specs.Acts.{Acts, AreOfCells, Did, HaveGrown, told_of};
 ghost use Rattle.warp_runner.specs.Deeds.{IsStarting, IsStartingAt, IsStartFault};
-ghost use Rattle.warp_runner.specs.Journal.{Fits};
-ghost use Rattle.warp_runner.specs.Runs.{HasFaulted, NamesOne, begun_by, named};
+ghost use Rattle.warp_runner.specs.Journal.{Fits, FitsUntil};
+ghost use Rattle.warp_runner.specs.Runs.{HasFaulted, NamesOne, begun_by, code_of_start, named};
 
 use crate::calls::open_until_given;
 use crate::codes::{NO_MEMORY, POLL_FAULT, SPENT};
@@ -48,7 +48,7 @@ impl<P: Poller, F: Files, C: Clock, B: Book<Finished<P::Link, F>>, G: Gate> Serv
         requires unfailed { (P.Listener.told listener).failed_row ≡ 0 }
         ensures mgr { IsOfMgr mgr.now pass.new }
         ensures own { AreOfCells (arc_value self.new.shared).times self.new.timed (arc_value self.new.shared).cache self.new.cached (arc_value self.new.shared).tally self.new.tallied }
-        ensures fits { (jobs : Jobs) → Fits self.old.limit (told_of (mgr_view pass.old) (view_of self.old.tallied) (seen_of self.old.timed) (B.told self.old.book)) jobs → Fits self.new.limit (told_of (mgr_view pass.new) (view_of self.new.tallied) (seen_of self.new.timed) (B.told self.new.book)) jobs }
+        ensures fits { (jobs : Jobs) → Fits self.old.limit (told_of (mgr_view pass.old) (view_of self.old.tallied) (seen_of self.old.timed) (B.told self.old.book)) jobs → FitsUntil self.new.limit (code_of_start result) (told_of (mgr_view pass.new) (view_of self.new.tallied) (seen_of self.new.timed) (B.told self.new.book)) jobs }
         ensures same { (self.new.shared ≡ self.old.shared) × (self.new.limit ≡ self.old.limit) }
         ensures stays { HaveGrown (view_of self.old.cached) (view_of self.new.cached) (view_of self.old.tallied) (view_of self.new.tallied) × (P.meaning.polled self.new.poller ≡ P.meaning.polled self.old.poller) }
         ensures made { HasMadeCalls (mgr_view pass.old) (begun_by result) (mgr_view pass.new) }

@@ -1,16 +1,18 @@
 //! A sweep of the watches: connections on which nothing happened since the last one are ended.
-ghost use Rattle.std.specs.Prelude.{◌≡◌, [], map};
+ghost use Rattle.std.specs.Prelude.{◌≡◌, ℕ, [], map, Option};
 ghost use Rattle.std.specs.Arc.{arc_value};
 ghost use Rattle.stripe_table.specs.Calls.{shut_key};
 ghost use Rattle.warp_jobs.specs.Tags.{tag_of};
 ghost use Rattle.turn_cell.specs.Calls.{view_of};
 ghost use Rattle.event_mgr.specs.Manager.{MgrView, IsOfMgr, mgr_view};
 ghost use Rattle.timeout_mgr.specs.Calls.{view_of as seen_of};
+ghost use Rattle.timeout_mgr.specs.Passes.{calls_of};
 ghost use Rattle.dispatcher.specs.Firings.{Jobs};
 ghost use Rattle.dispatcher.specs.Runs.{HasMadeCalls, LeavesPolls};
 ghost use Rattle.warp_runner.specs.Acts.{Acts, AreOfCells, Did, HaveGrown, told_of};
 ghost use Rattle.warp_runner.specs.Deeds.{InTurn, IsLetGo, IsTimingOut};
-ghost use Rattle.warp_runner.specs.Journal.{Fits};
+ghost use Rattle.warp_runner.specs.Journal.{Fits, FitsUntil};
+ghost use Rattle.warp_runner.specs.Sweeps.{HasSweptOnce};
 
 use crate::codes::SPENT;
 use crate::runner::ServerRunner;
@@ -46,10 +48,12 @@ impl<P: Poller, F: Files, C: Clock, B: Book<Finished<P::Link, F>>, G: Gate> Serv
         requires own { AreOfCells (arc_value self.old.shared).times self.old.timed (arc_value self.old.shared).cache self.old.cached (arc_value self.old.shared).tally self.old.tallied }
         ensures mgr { IsOfMgr mgr.now pass.new }
         ensures own { AreOfCells (arc_value self.new.shared).times self.new.timed (arc_value self.new.shared).cache self.new.cached (arc_value self.new.shared).tally self.new.tallied }
-        ensures fits { (jobs : Jobs) → Fits self.old.limit (told_of (mgr_view pass.old) (view_of self.old.tallied) (seen_of self.old.timed) (B.told self.old.book)) jobs → Fits self.new.limit (told_of (mgr_view pass.new) (view_of self.new.tallied) (seen_of self.new.timed) (B.told self.new.book)) jobs }
+        ensures fits { (stop : Option ℕ) (jobs : Jobs) → FitsUntil self.old.limit stop (told_of (mgr_view pass.old) (view_of self.old.tallied) (seen_of self.old.timed) (B.told self.old.book)) jobs → FitsUntil self.new.limit stop (told_of (mgr_view pass.new) (view_of self.new.tallied) (seen_of self.new.timed) (B.told self.new.book)) jobs }
+        ensures stops { (jobs : Jobs) → Fits self.old.limit (told_of (mgr_view pass.old) (view_of self.old.tallied) (seen_of self.old.timed) (B.told self.old.book)) jobs → FitsUntil self.new.limit result (told_of (mgr_view pass.new) (view_of self.new.tallied) (seen_of self.new.timed) (B.told self.new.book)) jobs }
         ensures same { (self.new.shared ≡ self.old.shared) × (self.new.limit ≡ self.old.limit) }
         ensures stays { HaveGrown (view_of self.old.cached) (view_of self.new.cached) (view_of self.old.tallied) (view_of self.new.tallied) × LeavesPolls P.meaning self.old.poller self.new.poller }
         ensures made { HasMadeCalls (mgr_view pass.old) [] (mgr_view pass.new) }
+        ensures swept { HasSweptOnce (calls_of (seen_of self.old.timed)) (calls_of (seen_of self.new.timed)) }
     {
         // A law of the calls, for the proof: it does nothing when run.
         calls_of_runs::<Job<P, F>>();

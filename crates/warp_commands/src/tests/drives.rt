@@ -1,18 +1,30 @@
 // Whole commands, by the call that the program is: loads that are served in memory, and one connection.
 
-use super::no_front::NoFront;
 use super::{ASKED, MOMENT, PAGE, ROOM, Scene, USAGE, over_the_site, whole};
 use crate::{Host, run};
 use outside::{MemClock, MemFiles, MemSink, PieceLink};
+use poller::MemPoller;
 use std::alloc::{AllocError, Global};
 use std::sync::Wait;
 use std::test::Fail;
 use std::thread::Threads;
 use warp_core::{Counts, ServeEnd};
+use warp_front::NoFront;
+use warp_jobs::FreeGate;
 use warp_load::{LoadPlace, load_files};
 
+/// The front of these commands, which is asked for nothing, or wants memory.
+type MemFront = NoFront<MemPoller, MemFiles<LoadPlace>, MemClock, FreeGate>;
+
 /// What a command is run with here.
-pub(super) type MemHost = Host<PieceLink, MemFiles<LoadPlace>, MemClock, MemSink, MemSink, NoFront>;
+pub(super) type MemHost = Host<
+    PieceLink,
+    MemFiles<LoadPlace>,
+    MemClock,
+    MemSink,
+    MemSink,
+    MemFront,
+>;
 
 /// Runs these words over the files of a load, with a link that asks for a page and so much room for lines: the status, and the host.
 pub(super) fn ran<R: Threads + Wait + Sync>(
@@ -31,7 +43,7 @@ pub(super) fn ran<R: Threads + Wait + Sync>(
         clock: MemClock::new(vec![in alloc; MOMENT]?),
         out: MemSink::new(alloc, room)?,
         errors: MemSink::new(alloc, 300)?,
-        front: NoFront,
+        front: NoFront::new(),
         served: None,
         driven: None,
     };

@@ -19,17 +19,17 @@ returns-then-not-is_due-clause-serves g c =
 pub returns-then-not-is_due-clause-goes_on : goal.returns-then-not-is_due-clause-goes_on
 returns-then-not-is_due-clause-goes_on g c = record { passes = pass_same (known_by c.args.row.now); limit = refl }
 
-pub clean-stopped-requires : goal.clean-stopped-requires
-clean-stopped-requires g c =
+pub clean-halted-requires : goal.clean-halted-requires
+clean-halted-requires g c =
     let own = c.requires.own in
     record { own = record { passes = own.passes; shared = own.shared }; fits = c.requires.fits; halts = c.requires.halts }
 
 pub returns-clause-serves : goal.returns-clause-serves
 returns-clause-serves g c =
-    let s = c.clean-stopped.ensures.serves in
+    let s = c.clean-halted.ensures.serves in
     record { own = record { passes = s.own.passes; shared = s.own.shared }; fits = s.fits; halts = s.halts }
 
 pub returns-clause-goes_on : goal.returns-clause-goes_on
 returns-clause-goes_on g c =
-    let goes = c.clean-stopped.ensures.goes_on in
+    let goes = c.clean-halted.ensures.goes_on in
     record { passes = goes.passes; limit = goes.limit }

@@ -2,11 +2,9 @@ use Rattle.std.proofs.Common.{refl}
 use Rattle.dispatcher.proofs.Grown.{all_grown_same, grown_same}
 use Rattle.turn_cell.specs.Calls.{view_of}
 use Rattle.event_mgr.specs.Manager.{mgr_view}
-use Rattle.warp_core.proofs.Serving.{goes_by, goes_same}
+use Rattle.warp_core.proofs.Halting.{forget}
+use Rattle.warp_core.proofs.Serving.{goes_by}
 use Rattle.warp_core.proofs.beat.reap.Goals as goal
-
-pub returns-in_err-basket-clause-goes_on : goal.returns-in_err-basket-clause-goes_on
-returns-in_err-basket-clause-goes_on g c = goes_same c.args.row.now
 
 pub returns-in-Reaped-clause-goes_on : goal.returns-in-Reaped-clause-goes_on
 returns-in-Reaped-clause-goes_on g c =
@@ -19,9 +17,6 @@ returns-in-Spent-clause-goes_on g c =
     let x = c.args.row.now in
     let y = record x { runner = record x.runner { cached = c.reap_once-out.new.pass } } in
     goes_by x y (all_grown_same (mgr_view x.disp.mgr)) (record { cached = c.reap_once-out.ensures.cached.adds.grown; tallied = grown_same (view_of x.runner.tallied) }) refl
-
-pub returns-in_err-basket-clause-serves : goal.returns-in_err-basket-clause-serves
-returns-in_err-basket-clause-serves g c = c.requires
 
 pub reap_once-out-requires-clause-own : goal.reap_once-out-requires-clause-own
 reap_once-out-requires-clause-own g c = c.requires.own.passes.cache
@@ -48,3 +43,12 @@ returns-in-Spent-clause-serves g c =
       fits = c.requires.fits;
       halts = c.requires.halts;
     }
+
+pub returns-in-Spent-clause-may_halt : goal.returns-in-Spent-clause-may_halt
+returns-in-Spent-clause-may_halt g c = record { stops = forget c.requires.fits; faulted = λ is. absurd (cc) }
+
+pub returns-in-Reaped-clause-reaped : goal.returns-in-Reaped-clause-reaped
+returns-in-Reaped-clause-reaped g c = λ is. (c.in-Reaped.ensures.cached.did.0, c.reap_once-out.ensures.cached.adds.own ∙ ap (λ l. entries_of (view_of c.args.row.now.runner.cached) ++ l) c.in-Reaped.ensures.cached.did.1)
+
+pub returns-in-Spent-clause-reaped : goal.returns-in-Spent-clause-reaped
+returns-in-Spent-clause-reaped g c = λ is. absurd (cc)

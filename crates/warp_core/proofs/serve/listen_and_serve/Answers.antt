@@ -37,3 +37,6 @@ returns-clause-level g c = c.serve_on.ensures.level
 
 pub returns-clause-ends : goal.returns-clause-ends
 returns-clause-ends g c = c.serve_on.ensures.ends
+
+pub returns-clause-cause : goal.returns-clause-cause
+returns-clause-cause g c = c.serve_on.ensures.cause

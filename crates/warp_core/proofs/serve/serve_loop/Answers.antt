@@ -7,7 +7,7 @@ use Rattle.warp_passes.specs.Levels.{AreNewPasses}
 use Rattle.warp_passes.specs.Passes.{AreOf, pass_view}
 use Rattle.warp_core.specs.Making.{HasParts}
 use Rattle.warp_core.specs.Rows.{Serves, known_by, passes_of}
-use Rattle.warp_core.proofs.Apart.{explained_apart, served_count, served_ends, served_level, served_own}
+use Rattle.warp_core.proofs.Apart.{caused_apart, explained_apart, served_count, served_ends, served_level, served_own}
 use Rattle.warp_core.proofs.Made.{known_rows, new_hands}
 use Rattle.warp_core.proofs.serve.serve_loop.Goals as goal
 
@@ -122,6 +122,19 @@ returns-clause-ends g c =
     let parts = subst (λ rs. HasParts rs c.fill-passes.result.passes.items c.fill-passes.result.kits.items) whole c.fill-passes.ensures in
     let serve = subst (λ z. All (λ row. Serves told faults z row) ws) c.deref.ensures c.listen_and_serve-end.ensures.serve.0 in
     served_ends told faults s c.args.limit c.listen_and_serve-end.result ws c.fill-passes.result.passes.items c.fill-passes.result.kits.items parts c.listen_and_serve-end.ensures.ends
+
+pub returns-clause-cause : goal.returns-clause-cause
+returns-clause-cause g c =
+    let told = g.B.Book.told in
+    let faults = g.P.Poller.meaning.faults in
+    let s = arc_value c.in_ok-shared-2.shared in
+    let rows = c.in_ok-rows.rows.items in
+    let ws = c.listen_and_serve-end.new.rows in
+    let many : c.in_ok-rows.rows.len ≡ length ws = search rules in
+    let whole : take c.in_ok-rows.rows.len (ws ++ drop (length ws) rows) ≡ ws = whole_slice c.in_ok-rows.rows.len ws (drop (length ws) rows) many in
+    let parts = subst (λ rs. HasParts rs c.fill-passes.result.passes.items c.fill-passes.result.kits.items) whole c.fill-passes.ensures in
+    let serve = subst (λ z. All (λ row. Serves told faults z row) ws) c.deref.ensures c.listen_and_serve-end.ensures.serve.0 in
+    caused_apart told faults s c.args.limit c.listen_and_serve-end.result ws c.fill-passes.result.passes.items c.fill-passes.result.kits.items parts c.listen_and_serve-end.ensures.cause
 
 pub returns-clause-count : goal.returns-clause-count
 returns-clause-count g c =

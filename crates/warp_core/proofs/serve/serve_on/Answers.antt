@@ -29,6 +29,9 @@ returns-in-Some-settle-clause-level g c = c.settle.ensures.level
 pub returns-in-Some-settle-clause-ends : goal.returns-in-Some-settle-clause-ends
 returns-in-Some-settle-clause-ends g c = c.in-Some-settle.ensures.ends
 
+pub returns-in-Some-settle-clause-cause : goal.returns-in-Some-settle-clause-cause
+returns-in-Some-settle-clause-cause g c = c.in-Some-settle.ensures.cause
+
 pub turn_all-requires-clause-serve : goal.turn_all-requires-clause-serve
 turn_all-requires-clause-serve g c = λ κs lives. c.settle.ensures.serve
 

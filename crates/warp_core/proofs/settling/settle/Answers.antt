@@ -1,4 +1,5 @@
-use Rattle.warp_core.specs.Rows.{known_by}
+use Rattle.warp_core.specs.Rows.{OneDid, known_by}
+use Rattle.warp_core.proofs.Caused.{caused_halted, caused_shown}
 use Rattle.warp_core.proofs.Halting.{ends_halted, ends_shown}
 use Rattle.warp_core.proofs.settling.settle.Goals as goal
 
@@ -46,3 +47,11 @@ returns-in-None-clause-level g c = c.show_over-over.ensures.level
 pub returns-in-None-clause-ends : goal.returns-in-None-clause-ends
 returns-in-None-clause-ends g c =
     ends_shown known_by (λ row. (g.P.Poller.meaning.faults row.runner.poller).polls) c.args.limit c.show_over-over.result c.show_over-over.new.rows c.show_over-over.ensures.ends
+
+pub returns-in-Some-clause-cause : goal.returns-in-Some-clause-cause
+returns-in-Some-clause-cause g c =
+    caused_halted g.B.Book.told g.P.Poller.meaning.faults c.args.shared.now c.args.limit c.in-Some.end c.show_over-over.new.rows c.show_over-over.ensures.serve c.show_over-over.ensures.limit c.in-Some.ensures
+
+pub returns-in-None-clause-cause : goal.returns-in-None-clause-cause
+returns-in-None-clause-cause g c =
+    caused_shown known_by c.args.limit c.show_over-over.result c.show_over-over.new.rows (OneDid g.B.Book.told c.args.limit c.show_over-over.new.rows) c.show_over-over.ensures.ends

@@ -7,8 +7,8 @@ turn_once-requires g c = c.requires
 pub halt-requires-clause-serves : goal.halt-requires-clause-serves
 halt-requires-clause-serves g c = c.turn_once.ensures.serves
 
-pub halt-requires-clause-faulted : goal.halt-requires-clause-faulted
-halt-requires-clause-faulted g c = λ is. (let e = c.in-Some.is in c.turn_once.ensures.faulted (cc))
+pub halt-requires-clause-may_halt : goal.halt-requires-clause-may_halt
+halt-requires-clause-may_halt g c = c.in-Some.ensures.may_halt
 
 pub returns-in-None-clause-serves : goal.returns-in-None-clause-serves
 returns-in-None-clause-serves g c = c.turn_once.ensures.serves

@@ -1,11 +1,14 @@
-use Rattle.std.proofs.Common.{[], refl, arith}
-use Rattle.std.specs.Prelude.{Some}
+use Rattle.std.proofs.Common.{[], refl, subst, arith}
+use Rattle.std.specs.Prelude.{Some, None}
 use Rattle.turn_cell.specs.Calls.{view_of}
 use Rattle.event_mgr.specs.Manager.{mgr_view}
-use Rattle.dispatcher.proofs.Grown.{all_grown_same, grown_same}
+use Rattle.dispatcher.proofs.Grown.{all_grown_same}
+use Rattle.warp_runner.specs.Journal.{FitsUntil}
+use Rattle.warp_core.specs.declared.row.Halted.{Halted}
 use Rattle.warp_core.specs.declared.row.Halted.TheVariants as Halts
-use Rattle.warp_core.proofs.Serving.{cells_of, goes_by, pass_same, serves_with, stop_noted}
-use Rattle.warp_core.specs.Rows.{known_by}
+use Rattle.warp_core.proofs.Halting.{forget}
+use Rattle.warp_core.proofs.Serving.{cells_of, goes_by, serves_with, stop_noted}
+use Rattle.warp_core.specs.Rows.{stop_in, told_by}
 use Rattle.warp_core.proofs.turns.halt.Goals as goal
 
 pub note_stop-requires : goal.note_stop-requires
@@ -21,7 +24,7 @@ returns-in-PollFault-clause-serves g c =
     let y = record x { runner = c.note_stop.new.self; halted = Some Halts.PollFault } in
     let polls = e.stays.1.same_faults in
     serves_with g.B.Book.told g.P.Poller.meaning.faults c.args.shared.now x y c.requires.serves c.requires.serves.own.passes.disp e.own e.same.0
-    (e.fits (mgr_view x.disp.mgr) [] c.requires.serves.fits) (let was = c.requires.faulted c.in-PollFault.is in omega arith)
+    (forget (e.fits None (mgr_view x.disp.mgr) [] (forget c.requires.serves.fits))) (let was = c.requires.may_halt.faulted c.in-PollFault.is in omega arith)
 
 pub returns-in-PollFault-clause-goes_on : goal.returns-in-PollFault-clause-goes_on
 returns-in-PollFault-clause-goes_on g c =
@@ -36,8 +39,9 @@ returns-in-Done-clause-serves g c =
     let e = c.note_stop-in-WithCode.ensures in
     let y = record x { runner = c.note_stop-in-WithCode.new.self; halted = Some (Halts.WithCode c.in-WithCode.code) } in
     let polls = e.stays.1.same_faults in
+    let stops = subst (λ (h : Halted). FitsUntil x.runner.limit (stop_in (Some h)) (told_by g.B.Book.told x) []) c.in-WithCode.is c.requires.may_halt.stops in
     serves_with g.B.Book.told g.P.Poller.meaning.faults c.args.shared.now x y c.requires.serves c.requires.serves.own.passes.disp e.own e.same.0
-    (e.fits (mgr_view x.disp.mgr) [] c.requires.serves.fits) (stop_noted c.in-WithCode.code c.in-Done.field-0 (view_of x.runner.tallied) (view_of c.note_stop-in-WithCode.new.self.tallied) c.in-Done.ensures.called)
+    (e.fits (Some c.in-WithCode.code) (mgr_view x.disp.mgr) [] stops) (stop_noted c.in-WithCode.code c.in-Done.field-0 (view_of x.runner.tallied) (view_of c.note_stop-in-WithCode.new.self.tallied) c.in-Done.ensures.called)
 
 pub returns-in-Done-clause-goes_on : goal.returns-in-Done-clause-goes_on
 returns-in-Done-clause-goes_on g c =
@@ -53,7 +57,7 @@ returns-in-Spent-note_stop-clause-serves g c =
     let y = record x { runner = c.note_stop-in-WithCode.new.self; halted = Some Halts.Spent } in
     let polls = e.stays.1.same_faults in
     serves_with g.B.Book.told g.P.Poller.meaning.faults c.args.shared.now x y c.requires.serves c.requires.serves.own.passes.disp e.own e.same.0
-    (e.fits (mgr_view x.disp.mgr) [] c.requires.serves.fits) tt
+    (e.fits None (mgr_view x.disp.mgr) [] (forget c.requires.serves.fits)) tt
 
 pub returns-in-Spent-note_stop-clause-goes_on : goal.returns-in-Spent-note_stop-clause-goes_on
 returns-in-Spent-note_stop-clause-goes_on g c =
@@ -62,10 +66,21 @@ returns-in-Spent-note_stop-clause-goes_on g c =
     let y = record x { runner = c.note_stop-in-WithCode.new.self; halted = Some Halts.Spent } in
     goes_by x y (all_grown_same (mgr_view x.disp.mgr)) e.stays.0 e.same.1
 
+pub note_stop-requires-in-Spent : goal.note_stop-requires-in-Spent
+note_stop-requires-in-Spent g c = record { own = cells_of c.args.shared.now c.args.row.now c.requires.serves.own }
+
 pub returns-in-Spent-clause-serves : goal.returns-in-Spent-clause-serves
 returns-in-Spent-clause-serves g c =
-    let own = c.requires.serves.own in
-    record { own = record { passes = own.passes; shared = own.shared }; fits = c.requires.serves.fits; halts = tt }
+    let x = c.args.row.now in
+    let e = c.note_stop-in-Spent.ensures in
+    let y = record x { runner = c.note_stop-in-Spent.new.self; halted = Some Halts.Spent } in
+    let polls = e.stays.1.same_faults in
+    serves_with g.B.Book.told g.P.Poller.meaning.faults c.args.shared.now x y c.requires.serves c.requires.serves.own.passes.disp e.own e.same.0
+    (e.fits None (mgr_view x.disp.mgr) [] (forget c.requires.serves.fits)) tt
 
 pub returns-in-Spent-clause-goes_on : goal.returns-in-Spent-clause-goes_on
-returns-in-Spent-clause-goes_on g c = record { passes = pass_same (known_by c.args.row.now); limit = refl }
+returns-in-Spent-clause-goes_on g c =
+    let x = c.args.row.now in
+    let e = c.note_stop-in-Spent.ensures in
+    let y = record x { runner = c.note_stop-in-Spent.new.self; halted = Some Halts.Spent } in
+    goes_by x y (all_grown_same (mgr_view x.disp.mgr)) e.stays.0 e.same.1

@@ -1,3 +1,4 @@
+use Rattle.warp_core.proofs.Halting.{forget}
 use Rattle.warp_core.proofs.Serving.{goes_then}
 use Rattle.warp_core.proofs.turns.makes_a_round.Goals as goal
 
@@ -7,8 +8,8 @@ beat-requires g c = c.requires
 pub halt-requires-clause-serves : goal.halt-requires-clause-serves
 halt-requires-clause-serves g c = c.beat.ensures.serves
 
-pub halt-requires-clause-faulted : goal.halt-requires-clause-faulted
-halt-requires-clause-faulted g c = λ is. absurd (cc)
+pub halt-requires-clause-may_halt : goal.halt-requires-clause-may_halt
+halt-requires-clause-may_halt g c = c.in-Some.ensures.may_halt
 
 pub returns-in-Some-clause-serves : goal.returns-in-Some-clause-serves
 returns-in-Some-clause-serves g c = c.halt.ensures.serves
@@ -25,8 +26,8 @@ goes_on-requires g c = c.look.ensures.serves
 pub halt-requires-in-Spent-clause-serves : goal.halt-requires-in-Spent-clause-serves
 halt-requires-in-Spent-clause-serves g c = c.look.ensures.serves
 
-pub halt-requires-in-Spent-clause-faulted : goal.halt-requires-in-Spent-clause-faulted
-halt-requires-in-Spent-clause-faulted g c = λ is. absurd (cc)
+pub halt-requires-in-Spent-clause-may_halt : goal.halt-requires-in-Spent-clause-may_halt
+halt-requires-in-Spent-clause-may_halt g c = record { stops = forget c.look.ensures.serves.fits; faulted = λ is. absurd (cc) }
 
 pub returns-in-GoesOn-clause-serves : goal.returns-in-GoesOn-clause-serves
 returns-in-GoesOn-clause-serves g c = c.goes_on.ensures.serves
@@ -47,3 +48,15 @@ returns-in-Spent-clause-serves g c = c.halt-in-Spent.ensures.serves
 pub returns-in-Spent-clause-goes_on : goal.returns-in-Spent-clause-goes_on
 returns-in-Spent-clause-goes_on g c = goes_then c.args.row.now c.beat.new.row c.halt-in-Spent.new.row c.beat.ensures.goes_on
     (goes_then c.beat.new.row c.look.new.row c.halt-in-Spent.new.row c.look.ensures.goes_on c.halt-in-Spent.ensures.goes_on)
+
+pub returns-in-Some-clause-beats : goal.returns-in-Some-clause-beats
+returns-in-Some-clause-beats g c = (c.beat.result, c.beat.new.row, c.beat.ensures.beat, c.halt.ensures.goes_on)
+
+pub returns-in-GoesOn-clause-beats : goal.returns-in-GoesOn-clause-beats
+returns-in-GoesOn-clause-beats g c = (c.beat.result, c.beat.new.row, c.beat.ensures.beat, goes_then c.beat.new.row c.look.new.row c.goes_on.new.row c.look.ensures.goes_on c.goes_on.ensures.goes_on)
+
+pub returns-in-IsOver-clause-beats : goal.returns-in-IsOver-clause-beats
+returns-in-IsOver-clause-beats g c = (c.beat.result, c.beat.new.row, c.beat.ensures.beat, c.look.ensures.goes_on)
+
+pub returns-in-Spent-clause-beats : goal.returns-in-Spent-clause-beats
+returns-in-Spent-clause-beats g c = (c.beat.result, c.beat.new.row, c.beat.ensures.beat, goes_then c.beat.new.row c.look.new.row c.halt-in-Spent.new.row c.look.ensures.goes_on c.halt-in-Spent.ensures.goes_on)

@@ -1,6 +1,11 @@
-use Rattle.std.proofs.Common.{[], refl, arith}
-use Rattle.std.specs.Prelude.{None}
-use Rattle.std.proofs.lemmas.Option.{none-some}
+use Rattle.std.proofs.Common.{ℕ, [], refl, subst, arith}
+use Rattle.std.specs.Prelude.{Option, None}
+use Rattle.turn_cell.specs.Calls.{view_of}
+use Rattle.timeout_mgr.specs.Calls.{view_of as seen_of}
+use Rattle.event_mgr.specs.Manager.{mgr_view}
+use Rattle.warp_runner.specs.Acts.{told_of}
+use Rattle.warp_runner.specs.Journal.{FitsUntil}
+use Rattle.warp_core.proofs.Halting.{forget}
 use Rattle.warp_core.proofs.Serving.{cells_of, goes_by, serves_with}
 use Rattle.warp_core.proofs.turns.turn_once.Goals as goal
 
@@ -8,7 +13,7 @@ pub turn-turned-requires-clause-ready : goal.turn-turned-requires-clause-ready
 turn-turned-requires-clause-ready g c = record {
   own = c.requires.own.passes.disp;
   stop = refl;
-  fits = (cells_of c.args.shared.now c.args.row.now c.requires.own, c.requires.fits);
+  fits = (cells_of c.args.shared.now c.args.row.now c.requires.own, forget c.requires.fits);
 }
 
 pub turn-turned-requires-clause-empty : goal.turn-turned-requires-clause-empty
@@ -20,7 +25,7 @@ returns-in-Done-clause-serves g c =
     let e = c.turn-turned.ensures in
     let work = c.in-Done.ensures.turned.work in
     let y = record x { disp = c.turn-turned.new.passes; runner = c.turn-turned.new.runner; reports = c.turn-turned.new.reports; halted = None } in
-    serves_with g.B.Book.told g.P.Poller.meaning.faults c.args.shared.now x y c.requires e.own e.fits.0 work.kept.0 e.fits.1 tt
+    serves_with g.B.Book.told g.P.Poller.meaning.faults c.args.shared.now x y c.requires e.own e.fits.0 work.kept.0 (forget e.fits.1) tt
 
 pub returns-in-Done-clause-goes_on : goal.returns-in-Done-clause-goes_on
 returns-in-Done-clause-goes_on g c =
@@ -30,16 +35,13 @@ returns-in-Done-clause-goes_on g c =
     let y = record x { disp = c.turn-turned.new.passes; runner = c.turn-turned.new.runner; reports = c.turn-turned.new.reports; halted = None } in
     goes_by x y work.grown work.kept.2 work.kept.1
 
-pub returns-in-Done-clause-faulted : goal.returns-in-Done-clause-faulted
-returns-in-Done-clause-faulted g c = λ is. absurd (none-some _ is)
-
 pub returns-in-PollFault-clause-serves : goal.returns-in-PollFault-clause-serves
 returns-in-PollFault-clause-serves g c =
     let x = c.args.row.now in
     let e = c.turn-turned.ensures in
     let work = c.in-PollFault.ensures.turned.work in
     let y = record x { disp = c.turn-turned.new.passes; runner = c.turn-turned.new.runner; reports = c.turn-turned.new.reports; halted = None } in
-    serves_with g.B.Book.told g.P.Poller.meaning.faults c.args.shared.now x y c.requires e.own e.fits.0 work.kept.0 e.fits.1 tt
+    serves_with g.B.Book.told g.P.Poller.meaning.faults c.args.shared.now x y c.requires e.own e.fits.0 work.kept.0 (forget e.fits.1) tt
 
 pub returns-in-PollFault-clause-goes_on : goal.returns-in-PollFault-clause-goes_on
 returns-in-PollFault-clause-goes_on g c =
@@ -49,16 +51,13 @@ returns-in-PollFault-clause-goes_on g c =
     let y = record x { disp = c.turn-turned.new.passes; runner = c.turn-turned.new.runner; reports = c.turn-turned.new.reports; halted = None } in
     goes_by x y work.grown work.kept.2 work.kept.1
 
-pub returns-in-PollFault-clause-faulted : goal.returns-in-PollFault-clause-faulted
-returns-in-PollFault-clause-faulted g c = λ is. (let rose = c.in-PollFault.ensures.turned.rose in omega arith)
-
 pub returns-in-Stop-clause-serves : goal.returns-in-Stop-clause-serves
 returns-in-Stop-clause-serves g c =
     let x = c.args.row.now in
     let e = c.turn-turned.ensures in
     let work = c.in-Stop.ensures.turned.work in
     let y = record x { disp = c.turn-turned.new.passes; runner = c.turn-turned.new.runner; reports = c.turn-turned.new.reports; halted = None } in
-    serves_with g.B.Book.told g.P.Poller.meaning.faults c.args.shared.now x y c.requires e.own e.fits.0 work.kept.0 e.fits.1 tt
+    serves_with g.B.Book.told g.P.Poller.meaning.faults c.args.shared.now x y c.requires e.own e.fits.0 work.kept.0 (forget e.fits.1) tt
 
 pub returns-in-Stop-clause-goes_on : goal.returns-in-Stop-clause-goes_on
 returns-in-Stop-clause-goes_on g c =
@@ -68,16 +67,13 @@ returns-in-Stop-clause-goes_on g c =
     let y = record x { disp = c.turn-turned.new.passes; runner = c.turn-turned.new.runner; reports = c.turn-turned.new.reports; halted = None } in
     goes_by x y work.grown work.kept.2 work.kept.1
 
-pub returns-in-Stop-clause-faulted : goal.returns-in-Stop-clause-faulted
-returns-in-Stop-clause-faulted g c = λ is. absurd (cc)
-
 pub returns-in-Spent-clause-serves : goal.returns-in-Spent-clause-serves
 returns-in-Spent-clause-serves g c =
     let x = c.args.row.now in
     let e = c.turn-turned.ensures in
     let work = c.in-Spent.ensures.turned.0.work in
     let y = record x { disp = c.turn-turned.new.passes; runner = c.turn-turned.new.runner; reports = c.turn-turned.new.reports; halted = None } in
-    serves_with g.B.Book.told g.P.Poller.meaning.faults c.args.shared.now x y c.requires e.own e.fits.0 work.kept.0 e.fits.1 tt
+    serves_with g.B.Book.told g.P.Poller.meaning.faults c.args.shared.now x y c.requires e.own e.fits.0 work.kept.0 (forget e.fits.1) tt
 
 pub returns-in-Spent-clause-goes_on : goal.returns-in-Spent-clause-goes_on
 returns-in-Spent-clause-goes_on g c =
@@ -87,5 +83,14 @@ returns-in-Spent-clause-goes_on g c =
     let y = record x { disp = c.turn-turned.new.passes; runner = c.turn-turned.new.runner; reports = c.turn-turned.new.reports; halted = None } in
     goes_by x y work.grown work.kept.2 work.kept.1
 
-pub returns-in-Spent-clause-faulted : goal.returns-in-Spent-clause-faulted
-returns-in-Spent-clause-faulted g c = λ is. absurd (cc)
+pub returns-in-PollFault-clause-may_halt : goal.returns-in-PollFault-clause-may_halt
+returns-in-PollFault-clause-may_halt g c = record { stops = forget c.turn-turned.ensures.fits.1; faulted = λ is. (let rose = c.in-PollFault.ensures.turned.rose in omega arith) }
+
+pub returns-in-Stop-clause-may_halt : goal.returns-in-Stop-clause-may_halt
+returns-in-Stop-clause-may_halt g c =
+    let r = c.turn-turned.new.runner in
+    let u = told_of (mgr_view c.turn-turned.new.passes.mgr) (view_of r.tallied) (seen_of r.timed) (g.B.Book.told r.book) in
+    record { stops = subst (λ (o : Option ℕ). FitsUntil r.limit o u []) c.in-Stop.ensures.stop c.turn-turned.ensures.fits.1; faulted = λ is. absurd (cc) }
+
+pub returns-in-Spent-clause-may_halt : goal.returns-in-Spent-clause-may_halt
+returns-in-Spent-clause-may_halt g c = record { stops = forget c.turn-turned.ensures.fits.1; faulted = λ is. absurd (cc) }

@@ -15,4 +15,4 @@ returns-clause-fits g c =
     let b = g.B.Book.told was.book in
     let q = view_of c.look.new.pass in
     let n = notes c.calls_of_runs.ensures t q s b Look (inl refl) c.look.result c.look.ensures.called in
-    λ v jobs fits. note_fits was.limit (told_of v t s b) (told_of v q s b) jobs n.0 (n.1 v) n.2 fits
+    λ stop v jobs fits. note_fits was.limit (told_of v t s b) (told_of v q s b) jobs n.0 stop (n.1 v) n.2 fits

@@ -8,7 +8,7 @@ use Rattle.dispatcher.specs.Firings.{firing_of, job_of}
 use Rattle.dispatcher.specs.Runs.{HasMadeCalls}
 use Rattle.warp_jobs.specs.Tags.{tag_of}
 use Rattle.warp_runner.specs.Acts.{told_of}
-use Rattle.warp_runner.specs.Journal.{Fits}
+use Rattle.warp_runner.specs.Journal.{FitsUntil}
 use Rattle.warp_runner.specs.Runs.{named}
 use Rattle.warp_runner.proofs.Running.{run_fits}
 use Rattle.warp_runner.proofs.runner.ServerRunnerRunnerJob.run.Goals as goal
@@ -28,8 +28,8 @@ returns-clause-fits g c =
     λ o rest pre.
     let f = firing_of (λ job. tag_of job) o c.args.fired.now in (
       e.own,
-      subst (λ n. Fits n w rest) (sym e.same.1)
-          (run_fits was.limit u w rest f (job_of f (kind_of_job (λ job. tag_of job) c.args.fired.now.job)) (named ran) ran.stopped (ap (λ k. job_of f k) kind) (e.ran f kind refl) pre.1),
+      subst (λ n. FitsUntil n ran.stopped w rest) (sym e.same.1)
+          (run_fits was.limit u w rest f (job_of f (kind_of_job (λ job. tag_of job) c.args.fired.now.job)) (named ran) ran.stopped (ap (λ k. job_of f k) kind) (e.ran f kind refl) pre.1.0),
     )
 
 pub returns-clause-made : goal.returns-clause-made
