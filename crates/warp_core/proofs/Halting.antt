@@ -86,13 +86,9 @@ module _ {A L : Type 0} (known : A → PassView L) (polls : A → ℕ) where
   ends_shown limit (Some Spent) xs shows = tt
   ends_shown limit (Some NoMemory) xs shows = absurd shows
 
--- what of a journal is known without the code with which a deed stopped
-pub forget : {limit : ℕ} {stop : Option ℕ} {u : ServeTold} {jobs : Jobs} → FitsUntil limit stop u jobs → FitsUntil limit None u jobs
-forget fits = (fits.0, tt)
-
 -- a dispatcher may halt with the code of its journal, or with none
-pub halts_as : {limit : ℕ} {u : ServeTold} {jobs : Jobs} (halted : Halted) (code : ℕ) → (stop_in (Some halted) ≡ None) ⊎ (stop_in (Some halted) ≡ Some code)
+pub halts_as : (limit : ℕ) (u : ServeTold) (jobs : Jobs) (halted : Halted) (code : ℕ) → (stop_in (Some halted) ≡ None) ⊎ (stop_in (Some halted) ≡ Some code)
     → FitsUntil limit (Some code) u jobs → FitsUntil limit (stop_in (Some halted)) u jobs
-halts_as {limit} {u} {jobs} halted code is fits = ⊎_elim
+halts_as limit u jobs halted code is fits = ⊎_elim
     (λ a. subst (λ (o : Option ℕ). FitsUntil limit o u jobs) (sym a) (fits.0, tt))
     (λ b. subst (λ (o : Option ℕ). FitsUntil limit o u jobs) (sym b) fits) is

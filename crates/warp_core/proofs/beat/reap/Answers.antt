@@ -1,8 +1,8 @@
-use Rattle.std.proofs.Common.{refl}
+use Rattle.std.proofs.Common.{◌++◌, refl, ap, ◌∙◌}
+use Rattle.warp_passes.specs.Own.{entries_of}
 use Rattle.dispatcher.proofs.Grown.{all_grown_same, grown_same}
 use Rattle.turn_cell.specs.Calls.{view_of}
 use Rattle.event_mgr.specs.Manager.{mgr_view}
-use Rattle.warp_core.proofs.Halting.{forget}
 use Rattle.warp_core.proofs.Serving.{goes_by}
 use Rattle.warp_core.proofs.beat.reap.Goals as goal
 
@@ -45,7 +45,7 @@ returns-in-Spent-clause-serves g c =
     }
 
 pub returns-in-Spent-clause-may_halt : goal.returns-in-Spent-clause-may_halt
-returns-in-Spent-clause-may_halt g c = record { stops = forget c.requires.fits; faulted = λ is. absurd (cc) }
+returns-in-Spent-clause-may_halt g c = record { stops = (c.requires.fits.0, tt); faulted = λ is. absurd (cc) }
 
 pub returns-in-Reaped-clause-reaped : goal.returns-in-Reaped-clause-reaped
 returns-in-Reaped-clause-reaped g c = λ is. (c.in-Reaped.ensures.cached.did.0, c.reap_once-out.ensures.cached.adds.own ∙ ap (λ l. entries_of (view_of c.args.row.now.runner.cached) ++ l) c.in-Reaped.ensures.cached.did.1)

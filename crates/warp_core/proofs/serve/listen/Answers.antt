@@ -1,9 +1,12 @@
 use Rattle.std.proofs.Common.{[], length, ap, arith}
 use Rattle.std.specs.Prelude.{None}
+use Rattle.turn_cell.specs.Calls.{view_of}
 use Rattle.event_mgr.specs.Manager.{mgr_view}
+use Rattle.timeout_mgr.specs.Calls.{view_of as seen_of}
+use Rattle.warp_runner.specs.Acts.{told_of}
 use Rattle.warp_runner.specs.Runs.{begun_by}
 use Rattle.warp_core.proofs.Serving.{cells_of, goes_by, goes_then, made_grown, serves_with}
-use Rattle.warp_core.proofs.Halting.{forget, halts_as}
+use Rattle.warp_core.proofs.Halting.{halts_as}
 use Rattle.warp_core.proofs.serve.listen.Goals as goal
 
 pub begin_listening-requires-clause-mgr : goal.begin_listening-requires-clause-mgr
@@ -23,11 +26,14 @@ halt-requires-clause-serves g c =
     let x = c.args.row.now in
     let e = c.begin_listening.ensures in
     let y = record x { disp = record x.disp { mgr = c.begin_listening.new.pass }; runner = c.begin_listening.new.self; halted = None } in
-    serves_with g.B.Book.told g.P.Poller.meaning.faults c.args.shared.now x y c.requires.serves (e.mgr, c.requires.serves.own.passes.disp.1) e.own e.same.0 (forget (e.fits [] c.requires.serves.fits.0)) tt
+    serves_with g.B.Book.told g.P.Poller.meaning.faults c.args.shared.now x y c.requires.serves (e.mgr, c.requires.serves.own.passes.disp.1) e.own e.same.0 (((e.fits [] c.requires.serves.fits.0).0, tt)) tt
 
 pub halt-requires-clause-may_halt : goal.halt-requires-clause-may_halt
 halt-requires-clause-may_halt g c = record {
-  stops = halts_as c.halted_with.result c.in-Err.code c.halted_with.ensures.stops (c.begin_listening.ensures.fits [] c.requires.serves.fits.0);
+  stops =
+      let r = c.begin_listening.new.self in
+      let u = told_of (mgr_view c.begin_listening.new.pass) (view_of r.tallied) (seen_of r.timed) (g.B.Book.told r.book) in
+      halts_as r.limit u [] c.halted_with.result c.in-Err.code c.halted_with.ensures.stops (c.in-Err.ensures.fits [] c.requires.serves.fits.0);
   faulted = λ is. c.in-Err.ensures.faulted (c.halted_with.ensures.faulted is);
 }
 
@@ -36,7 +42,7 @@ returns-in-Ok-None-clause-serves g c =
     let x = c.args.row.now in
     let e = c.begin_listening.ensures in
     let y = record x { disp = record x.disp { mgr = c.begin_listening.new.pass }; runner = c.begin_listening.new.self; halted = None } in
-    serves_with g.B.Book.told g.P.Poller.meaning.faults c.args.shared.now x y c.requires.serves (e.mgr, c.requires.serves.own.passes.disp.1) e.own e.same.0 (forget (e.fits [] c.requires.serves.fits.0)) tt
+    serves_with g.B.Book.told g.P.Poller.meaning.faults c.args.shared.now x y c.requires.serves (e.mgr, c.requires.serves.own.passes.disp.1) e.own e.same.0 (((e.fits [] c.requires.serves.fits.0).0, tt)) tt
 
 pub returns-in-Ok-None-clause-goes_on : goal.returns-in-Ok-None-clause-goes_on
 returns-in-Ok-None-clause-goes_on g c =
@@ -50,7 +56,7 @@ returns-in-Ok-Some-clause-serves g c =
     let x = c.args.row.now in
     let e = c.begin_listening.ensures in
     let y = record x { disp = record x.disp { mgr = c.begin_listening.new.pass; hand = c.push.new.self }; runner = c.begin_listening.new.self; halted = None } in
-    serves_with g.B.Book.told g.P.Poller.meaning.faults c.args.shared.now x y c.requires.serves (e.mgr, c.requires.serves.own.passes.disp.1) e.own e.same.0 (forget (e.fits [] c.requires.serves.fits.0)) tt
+    serves_with g.B.Book.told g.P.Poller.meaning.faults c.args.shared.now x y c.requires.serves (e.mgr, c.requires.serves.own.passes.disp.1) e.own e.same.0 (((e.fits [] c.requires.serves.fits.0).0, tt)) tt
 
 pub returns-in-Ok-Some-clause-goes_on : goal.returns-in-Ok-Some-clause-goes_on
 returns-in-Ok-Some-clause-goes_on g c =

@@ -6,7 +6,6 @@ use Rattle.dispatcher.proofs.Grown.{all_grown_same}
 use Rattle.warp_runner.specs.Journal.{FitsUntil}
 use Rattle.warp_core.specs.declared.row.Halted.{Halted}
 use Rattle.warp_core.specs.declared.row.Halted.TheVariants as Halts
-use Rattle.warp_core.proofs.Halting.{forget}
 use Rattle.warp_core.proofs.Serving.{cells_of, goes_by, serves_with, stop_noted}
 use Rattle.warp_core.specs.Rows.{stop_in, told_by}
 use Rattle.warp_core.proofs.turns.halt.Goals as goal
@@ -24,7 +23,7 @@ returns-in-PollFault-clause-serves g c =
     let y = record x { runner = c.note_stop.new.self; halted = Some Halts.PollFault } in
     let polls = e.stays.1.same_faults in
     serves_with g.B.Book.told g.P.Poller.meaning.faults c.args.shared.now x y c.requires.serves c.requires.serves.own.passes.disp e.own e.same.0
-    (forget (e.fits None (mgr_view x.disp.mgr) [] (forget c.requires.serves.fits))) (let was = c.requires.may_halt.faulted c.in-PollFault.is in omega arith)
+    (((e.fits None (mgr_view x.disp.mgr) [] ((c.requires.serves.fits.0, tt))).0, tt)) (let was = c.requires.may_halt.faulted c.in-PollFault.is in omega arith)
 
 pub returns-in-PollFault-clause-goes_on : goal.returns-in-PollFault-clause-goes_on
 returns-in-PollFault-clause-goes_on g c =
@@ -57,7 +56,7 @@ returns-in-Spent-note_stop-clause-serves g c =
     let y = record x { runner = c.note_stop-in-WithCode.new.self; halted = Some Halts.Spent } in
     let polls = e.stays.1.same_faults in
     serves_with g.B.Book.told g.P.Poller.meaning.faults c.args.shared.now x y c.requires.serves c.requires.serves.own.passes.disp e.own e.same.0
-    (e.fits None (mgr_view x.disp.mgr) [] (forget c.requires.serves.fits)) tt
+    (e.fits None (mgr_view x.disp.mgr) [] ((c.requires.serves.fits.0, tt))) tt
 
 pub returns-in-Spent-note_stop-clause-goes_on : goal.returns-in-Spent-note_stop-clause-goes_on
 returns-in-Spent-note_stop-clause-goes_on g c =
@@ -76,7 +75,7 @@ returns-in-Spent-clause-serves g c =
     let y = record x { runner = c.note_stop-in-Spent.new.self; halted = Some Halts.Spent } in
     let polls = e.stays.1.same_faults in
     serves_with g.B.Book.told g.P.Poller.meaning.faults c.args.shared.now x y c.requires.serves c.requires.serves.own.passes.disp e.own e.same.0
-    (e.fits None (mgr_view x.disp.mgr) [] (forget c.requires.serves.fits)) tt
+    (e.fits None (mgr_view x.disp.mgr) [] ((c.requires.serves.fits.0, tt))) tt
 
 pub returns-in-Spent-clause-goes_on : goal.returns-in-Spent-clause-goes_on
 returns-in-Spent-clause-goes_on g c =

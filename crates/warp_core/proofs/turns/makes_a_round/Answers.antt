@@ -1,4 +1,3 @@
-use Rattle.warp_core.proofs.Halting.{forget}
 use Rattle.warp_core.proofs.Serving.{goes_then}
 use Rattle.warp_core.proofs.turns.makes_a_round.Goals as goal
 
@@ -27,7 +26,7 @@ pub halt-requires-in-Spent-clause-serves : goal.halt-requires-in-Spent-clause-se
 halt-requires-in-Spent-clause-serves g c = c.look.ensures.serves
 
 pub halt-requires-in-Spent-clause-may_halt : goal.halt-requires-in-Spent-clause-may_halt
-halt-requires-in-Spent-clause-may_halt g c = record { stops = forget c.look.ensures.serves.fits; faulted = λ is. absurd (cc) }
+halt-requires-in-Spent-clause-may_halt g c = record { stops = (c.look.ensures.serves.fits.0, tt); faulted = λ is. absurd (cc) }
 
 pub returns-in-GoesOn-clause-serves : goal.returns-in-GoesOn-clause-serves
 returns-in-GoesOn-clause-serves g c = c.goes_on.ensures.serves

@@ -5,7 +5,6 @@ use Rattle.timeout_mgr.specs.Calls.{view_of as seen_of}
 use Rattle.event_mgr.specs.Manager.{mgr_view}
 use Rattle.warp_runner.specs.Acts.{told_of}
 use Rattle.warp_runner.specs.Journal.{FitsUntil}
-use Rattle.warp_core.proofs.Halting.{forget}
 use Rattle.warp_core.proofs.Serving.{cells_of, goes_by, serves_with}
 use Rattle.warp_core.proofs.turns.turn_once.Goals as goal
 
@@ -13,7 +12,7 @@ pub turn-turned-requires-clause-ready : goal.turn-turned-requires-clause-ready
 turn-turned-requires-clause-ready g c = record {
   own = c.requires.own.passes.disp;
   stop = refl;
-  fits = (cells_of c.args.shared.now c.args.row.now c.requires.own, forget c.requires.fits);
+  fits = (cells_of c.args.shared.now c.args.row.now c.requires.own, (c.requires.fits.0, tt));
 }
 
 pub turn-turned-requires-clause-empty : goal.turn-turned-requires-clause-empty
@@ -25,7 +24,7 @@ returns-in-Done-clause-serves g c =
     let e = c.turn-turned.ensures in
     let work = c.in-Done.ensures.turned.work in
     let y = record x { disp = c.turn-turned.new.passes; runner = c.turn-turned.new.runner; reports = c.turn-turned.new.reports; halted = None } in
-    serves_with g.B.Book.told g.P.Poller.meaning.faults c.args.shared.now x y c.requires e.own e.fits.0 work.kept.0 (forget e.fits.1) tt
+    serves_with g.B.Book.told g.P.Poller.meaning.faults c.args.shared.now x y c.requires e.own e.fits.0 work.kept.0 ((e.fits.1.0, tt)) tt
 
 pub returns-in-Done-clause-goes_on : goal.returns-in-Done-clause-goes_on
 returns-in-Done-clause-goes_on g c =
@@ -41,7 +40,7 @@ returns-in-PollFault-clause-serves g c =
     let e = c.turn-turned.ensures in
     let work = c.in-PollFault.ensures.turned.work in
     let y = record x { disp = c.turn-turned.new.passes; runner = c.turn-turned.new.runner; reports = c.turn-turned.new.reports; halted = None } in
-    serves_with g.B.Book.told g.P.Poller.meaning.faults c.args.shared.now x y c.requires e.own e.fits.0 work.kept.0 (forget e.fits.1) tt
+    serves_with g.B.Book.told g.P.Poller.meaning.faults c.args.shared.now x y c.requires e.own e.fits.0 work.kept.0 ((e.fits.1.0, tt)) tt
 
 pub returns-in-PollFault-clause-goes_on : goal.returns-in-PollFault-clause-goes_on
 returns-in-PollFault-clause-goes_on g c =
@@ -57,7 +56,7 @@ returns-in-Stop-clause-serves g c =
     let e = c.turn-turned.ensures in
     let work = c.in-Stop.ensures.turned.work in
     let y = record x { disp = c.turn-turned.new.passes; runner = c.turn-turned.new.runner; reports = c.turn-turned.new.reports; halted = None } in
-    serves_with g.B.Book.told g.P.Poller.meaning.faults c.args.shared.now x y c.requires e.own e.fits.0 work.kept.0 (forget e.fits.1) tt
+    serves_with g.B.Book.told g.P.Poller.meaning.faults c.args.shared.now x y c.requires e.own e.fits.0 work.kept.0 ((e.fits.1.0, tt)) tt
 
 pub returns-in-Stop-clause-goes_on : goal.returns-in-Stop-clause-goes_on
 returns-in-Stop-clause-goes_on g c =
@@ -73,7 +72,7 @@ returns-in-Spent-clause-serves g c =
     let e = c.turn-turned.ensures in
     let work = c.in-Spent.ensures.turned.0.work in
     let y = record x { disp = c.turn-turned.new.passes; runner = c.turn-turned.new.runner; reports = c.turn-turned.new.reports; halted = None } in
-    serves_with g.B.Book.told g.P.Poller.meaning.faults c.args.shared.now x y c.requires e.own e.fits.0 work.kept.0 (forget e.fits.1) tt
+    serves_with g.B.Book.told g.P.Poller.meaning.faults c.args.shared.now x y c.requires e.own e.fits.0 work.kept.0 ((e.fits.1.0, tt)) tt
 
 pub returns-in-Spent-clause-goes_on : goal.returns-in-Spent-clause-goes_on
 returns-in-Spent-clause-goes_on g c =
@@ -84,7 +83,7 @@ returns-in-Spent-clause-goes_on g c =
     goes_by x y work.grown work.kept.2 work.kept.1
 
 pub returns-in-PollFault-clause-may_halt : goal.returns-in-PollFault-clause-may_halt
-returns-in-PollFault-clause-may_halt g c = record { stops = forget c.turn-turned.ensures.fits.1; faulted = λ is. (let rose = c.in-PollFault.ensures.turned.rose in omega arith) }
+returns-in-PollFault-clause-may_halt g c = record { stops = (c.turn-turned.ensures.fits.1.0, tt); faulted = λ is. (let rose = c.in-PollFault.ensures.turned.rose in omega arith) }
 
 pub returns-in-Stop-clause-may_halt : goal.returns-in-Stop-clause-may_halt
 returns-in-Stop-clause-may_halt g c =
@@ -93,4 +92,4 @@ returns-in-Stop-clause-may_halt g c =
     record { stops = subst (λ (o : Option ℕ). FitsUntil r.limit o u []) c.in-Stop.ensures.stop c.turn-turned.ensures.fits.1; faulted = λ is. absurd (cc) }
 
 pub returns-in-Spent-clause-may_halt : goal.returns-in-Spent-clause-may_halt
-returns-in-Spent-clause-may_halt g c = record { stops = forget c.turn-turned.ensures.fits.1; faulted = λ is. absurd (cc) }
+returns-in-Spent-clause-may_halt g c = record { stops = (c.turn-turned.ensures.fits.1.0, tt); faulted = λ is. absurd (cc) }
