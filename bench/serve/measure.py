@@ -3,8 +3,8 @@
 
     python3 bench/serve/measure.py [--short] [--only WORD] [--rounds N] [--seconds S] [PROGRAM]
 
-PROGRAM is a built `warp_serve`; without it, crates/warp_serve/out/warp_serve. It prints tables for docs/BENCHMARKS.md: about three
-minutes with --short, and about half an hour without. --only takes the parts and the scenes in whose name the regular expression WORD is found.
+PROGRAM is a built `warp_serve`; without it, crates/warp_serve/out/warp_serve. It prints tables for docs/BENCHMARKS.md: about five
+minutes with --short, and about an hour and a half without. --only takes the parts and the scenes in whose name the regular expression WORD is found.
 
 Cost is processor time: what the server's process and those below it took, user and kernel together, by /proc/PID/stat, divided by
 the requests that wrk had answered. All servers run at once, and one after the other is loaded for some seconds, so that what else

@@ -79,9 +79,10 @@ def main():
                     memory, descriptors, threads = held(run.pid)
                     print(f"{passed / 60:.1f} minutes: {requests:,} requests, {memory:,} KiB, {descriptors} descriptors, {threads} threads", flush=True)
                     told = int(passed / 60) + 1
-                    first = first or (memory, descriptors)
+                    first = (memory, descriptors) if passed < 120 else first
+            time.sleep(8)
             memory, descriptors, _ = held(run.pid)
-            print(f"first {first[0]:,} KiB and {first[1]} descriptors, last {memory:,} KiB and {descriptors}")
+            print(f"at first {first[0]:,} KiB and {first[1]} descriptors, at last {memory:,} KiB and {descriptors}")
         finally:
             run.kill()
             run.wait(timeout=20)
