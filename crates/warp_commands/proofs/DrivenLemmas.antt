@@ -9,12 +9,15 @@ use Rattle.poller.specs.Faults.{PollerFaults}
 use Rattle.warp_books.specs.declared.sum_book.SumBook.{SumBook}
 use Rattle.warp_books.specs.Books.{IsBookOf}
 use Rattle.warp_books.specs.EndCounts.{book_told}
+use Rattle.warp_jobs.specs.declared.job.Job.{Job}
 use Rattle.warp_jobs.specs.declared.kit.Kit.{Kit}
 use Rattle.warp_passes.specs.Levels.{ArePassesLevel}
-use Rattle.warp_passes.specs.Passes.{AreOf, pass_view}
+use Rattle.warp_passes.specs.declared.shared.ServePass.{ServePass}
+use Rattle.warp_passes.specs.Passes.{AreOf, IsLawfulPass, lawful_of, pass_view}
 use Rattle.warp_core.specs.declared.served.Served.{Served}
 use Rattle.warp_core.specs.Ends.{EndsSo}
 use Rattle.warp_core.specs.Journals.{AreExplained}
+use Rattle.warp_commands.specs.Headline.{KeepsCallbacks}
 use Rattle.warp_commands.specs.Driven.{WasDriven}
 
 module _ {P F C G : Type 0} where
@@ -35,15 +38,17 @@ module _ {P F C G L I X E : Type 0} {H : Ghosts F X} where
       → count ≡ dispatchers
       → IfOk r (λ s. All (λ pass. AreOf (arc_value s.shared) pass) s.passes.items)
       → IfOk r (λ s. ArePassesLevel pass_view s.passes.items)
+      → ((xs : List (ServePass (Job P F L I X) F X H)) → All (λ x. IsLawfulPass (pass_view x)) xs → ArePassesLevel pass_view xs → KeepsCallbacks pass_view xs)
       → IfOk r (λ s. AreExplained book_told connections s.passes.items s.kits.items)
       → IfOk r (λ s. length s.kits.items ≡ count)
       → IfOk r (λ s. EndsSo pass_view connections s.end s.passes.items (weigh (λ kit. (faults kit.poller).polls) s.kits.items))
       → IfOk r (λ s. (s.limit ≡ connections) × (s.seconds ≡ 30))
       → IfOk r (λ s. WasDriven connections dispatchers s)
-  was_driven faults none connections dispatchers count (Err e) is own level explained counted ends same = tt
-  was_driven faults none connections dispatchers count (Ok s) is own level explained counted ends same = record {
+  was_driven faults none connections dispatchers count (Err e) is own level law explained counted ends same = tt
+  was_driven faults none connections dispatchers count (Ok s) is own level law explained counted ends same = record {
     own = own;
     level = level;
+    callbacks = law s.passes.items (λ k x here. lawful_of (arc_value s.shared) x (own k x here)) level;
     explained = explained;
     count = counted ∙ is;
     ends = subst (λ (n : ℕ). EndsSo pass_view connections s.end s.passes.items n) (no_polls faults none s.kits.items) ends;

@@ -20,6 +20,7 @@ use Rattle.warp_core.specs.declared.served.ServeEnd.TheVariants as Serving
 use Rattle.warp_core.specs.declared.served.Served.{Served}
 use Rattle.warp_core.specs.Ends.{EndsSo}
 use Rattle.warp_core.specs.Journals.{AreExplained}
+use Rattle.warp_commands.specs.Headline.{KeepsCallbacks}
 use Rattle.warp_commands.specs.declared.status.Status.{Status}
 use Rattle.warp_commands.specs.declared.status.Status.TheVariants.{Clean, Cut, Usage, ReadFault, WriteFault, FileFault, NoMemory, NoSuchFolder, PollFault, AcceptFault, Spent, OutFault, CannotListen, NotReady}
 use Rattle.warp_commands.specs.declared.status.Status.TheVariants as Exit
@@ -138,11 +139,13 @@ Prints NotReady lines out printed = printed ≡ out
 Prints Exit.TurnedAway lines out printed = printed ≡ out
 
 module _ {P F C G L I X : Type 0} {H : Ghosts F X} where
-  -- What a server left that served a load with so many dispatchers: the passes are of what all shared and level, a journal
+  -- What a server left that served a load with so many dispatchers: the passes are of what all shared and level, they keep the half of
+  -- the headline that speaks of descriptors, a journal
   -- explains what each dispatcher did, and the end has its cause; no poller failed.
   pub record WasDriven (connections dispatchers : ℕ) (s : Served P F C SumBook G L I X H) : Type 0 where
     pub own : All (λ pass. AreOf (arc_value s.shared) pass) s.passes.items
     pub level : ArePassesLevel pass_view s.passes.items
+    pub callbacks : KeepsCallbacks pass_view s.passes.items
     pub explained : AreExplained book_told connections s.passes.items s.kits.items
     pub count : length s.kits.items ≡ dispatchers
     pub ends : EndsSo pass_view connections s.end s.passes.items 0

@@ -1,5 +1,6 @@
 pub mod Causes
 pub mod Driven
+pub mod Headline
 pub mod Runs
 pub mod Served
 pub mod ServiceWords

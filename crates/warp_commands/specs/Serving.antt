@@ -21,6 +21,7 @@ use Rattle.warp_core.specs.Journals.{AreExplained}
 use Rattle.warp_commands.specs.declared.status.Status.{Status}
 use Rattle.warp_commands.specs.declared.status.Status.TheVariants.{Clean, Cut, Usage, ReadFault, WriteFault, FileFault, NoMemory, NoSuchFolder, PollFault, AcceptFault, Spent, OutFault, CannotListen, NotReady, TurnedAway}
 use Rattle.warp_commands.specs.Driven.{IsOverWith, accepted_in, number_line}
+use Rattle.warp_commands.specs.Headline.{KeepsCallbacks}
 use Rattle.warp_commands.specs.ServiceWords.{ServiceTold}
 
 -- the line that says that it listens
@@ -60,11 +61,12 @@ abbrev pub HasListened : List ℕ → ServiceTold → (old new : FrontTold) → 
 HasListened root service old new = new ≡ record { place = Some (service.address, service.port); root = Some root; faults = old.faults }
 
 module _ {P F C B G L I X : Type 0} {H : Ghosts F X} (told : B → BookTold) (faults : P → PollerFaults) where
-  -- What a server left: the passes are of what all shared and level, a journal explains what each dispatcher did, there were as
+  -- What a server left: the passes are of what all shared and level, they keep the half of the headline that speaks of descriptors, a journal explains what each dispatcher did, there were as
   -- many dispatchers as were asked for, and the end has its cause
   pub record HasServed (service : ServiceTold) (s : Served P F C B G L I X H) : Type 0 where
     pub own : All (λ pass. AreOf (arc_value s.shared) pass) s.passes.items
     pub level : ArePassesLevel pass_view s.passes.items
+    pub callbacks : KeepsCallbacks pass_view s.passes.items
     pub explained : AreExplained told service.connections s.passes.items s.kits.items
     pub count : length s.kits.items ≡ service.dispatchers
     pub ends : EndsSo pass_view service.connections s.end s.passes.items (weigh (λ kit. (faults kit.poller).polls) s.kits.items)

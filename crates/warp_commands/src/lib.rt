@@ -12,6 +12,9 @@ mod status;
 // One connection, served.
 mod connection;
 
+// What is promised of every server's passes.
+mod laws;
+
 // A load, served, and what is told of it.
 mod load_run;
 mod printing;

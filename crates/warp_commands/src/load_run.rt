@@ -6,6 +6,8 @@ ghost use Rattle.warp_books.specs.EndCounts.{book_told};
 ghost use Rattle.warp_load.specs.LoadScripts.{load_plans};
 ghost use Rattle.warp_commands.specs.Driven.{WasDriven};
 
+use crate::laws::level_passes_keep_callbacks;
+use fd_cache::Lease;
 use outside::{Files, Listener, MemClock, MemFiles};
 use poller::{MemListener, MemNet, MemPoller};
 use std::alloc::{AllocError, Global};
@@ -13,14 +15,21 @@ use std::sync::Wait;
 use std::thread::Threads;
 use warp_books::SumBook;
 use warp_core::{Served, serve_loop};
-use warp_jobs::{FreeGate, Kit};
+use warp_jobs::{FreeGate, Job, Kit};
 use warp_load::{LOAD_MOMENT, Load, LoadPlace, a_load_has_its_ranges, load_files, load_scripts};
+use warp_passes::ServePass;
 
 /// What serving a load leaves.
 pub type Driven = Served<MemPoller, MemFiles<LoadPlace>, MemClock, SumBook, FreeGate>;
 
 /// What a dispatcher serves a load with.
 type LoadKit = Kit<MemPoller, MemFiles<LoadPlace>, MemClock, SumBook, FreeGate>;
+
+/// A pass of what the dispatchers of a load share.
+type LoadPass = ServePass<Job<MemPoller, MemFiles<LoadPlace>>, MemFiles<LoadPlace>>;
+
+/// A lease of a file of a load.
+type LoadLease = Lease<MemFiles<LoadPlace>>;
 
 /// A connection on which nothing happened for so many seconds is ended. The clocks stand, so that none is.
 const SECONDS: u64 = 30;
@@ -35,8 +44,9 @@ pub(crate) fn served_load<R: Threads + Wait + Sync>(
     requires { (1 ≤ dispatchers) × (dispatchers ≤ 64) }
     ensures { IfOk result (λ served. WasDriven load.connections dispatchers served) }
 {
-    // A law of loads, for the proof: it does nothing when run.
+    // Laws of loads and of passes, for the proof: they do nothing when run.
     a_load_has_its_ranges();
+    level_passes_keep_callbacks::<LoadPass, LoadLease>();
     let (listener, pollers) = net_of(alloc, load, dispatchers)?;
     let kits = kits_of(alloc, pollers)?;
     serve_loop(rt, alloc, listener, kits, load.connections, SECONDS)

@@ -10,10 +10,12 @@ ghost use Rattle.warp_commands.specs.Driven.{Prints, accepted_in, number_line};
 ghost use Rattle.warp_commands.specs.ServiceWords.{IsService, service_shown};
 ghost use Rattle.warp_commands.specs.Serving.{EndsServing, HasListened, RefusesToServe, ServesFolder, ServingTold};
 
+use crate::laws::level_passes_keep_callbacks;
 use crate::printing::print_line;
 use crate::service::Service;
 use crate::status::Status;
-use outside::{Files, Listener, RootOut, Sink, SinkOut};
+use fd_cache::Lease;
+use outside::{Files, RootOut, Sink, SinkOut};
 use poller::Poller;
 use std::alloc::Global;
 use std::sync::Wait;
@@ -21,7 +23,8 @@ use std::thread::Threads;
 use warp_books::SumBook;
 use warp_core::{ServeEnd, Served, serve_loop};
 use warp_front::{Front, KitsOut, ListenOut};
-use warp_jobs::Kit;
+use warp_jobs::{Job, Kit};
+use warp_passes::ServePass;
 
 /// The line that says that a server listens.
 const LISTENING: &[u8] = b"listening\n";
@@ -34,6 +37,9 @@ pub type ServedBy<N> = Served<
     SumBook,
     <N as Front>::Gate,
 >;
+
+/// A pass of what the dispatchers of a server over a front share.
+type PassBy<N> = ServePass<Job<<N as Front>::Poller, <N as Front>::Files>, <N as Front>::Files>;
 
 /// What a server begins with: its listener, and the kit of each dispatcher.
 type Begun<N> = (
@@ -72,6 +78,8 @@ where
         (record { files = F.told files.new; out = O.told out.new; front = N.told front.new })
         served.new }
 {
+    // A law of passes, for the proof: it does nothing when run.
+    level_passes_keep_callbacks::<PassBy<N>, Lease<<N as Front>::Files>>();
     let (listener, kits) = match begin(root, service, files, front) {
         Ok(begun) => begun,
         Err(status) => return status,

@@ -1,5 +1,6 @@
 use Rattle.std.proofs.Common.{refl, ◌∙◌}
 use Rattle.poller.specs.Rounds.{no_faults}
+use Rattle.warp_passes.specs.Passes.{pass_view}
 use Rattle.warp_commands.proofs.DrivenLemmas.{was_driven}
 use Rattle.warp_commands.proofs.load_run.served_load.Goals as goal
 
@@ -8,4 +9,4 @@ returns g c =
     let served = c.serve_loop.ensures in
     was_driven (λ p. no_faults) (λ p. refl) c.args.load.connections c.args.dispatchers _ c.serve_loop.result
     (c.in_ok-kits.ensures.count ∙ c.in_ok-listener.ensures.count)
-    served.own served.level served.explained served.count served.ends served.same
+    served.own served.level (c.level_passes_keep_callbacks.ensures pass_view) served.explained served.count served.ends served.same
