@@ -1,4 +1,5 @@
-use Rattle.std.proofs.Common.{◌++◌, refl, ap, ◌∙◌}
+use Rattle.std.proofs.Common.{◌++◌, refl, ap, subst, ◌∙◌}
+use Rattle.warp_passes.specs.CacheCalls.{DidReap}
 use Rattle.warp_passes.specs.Own.{entries_of}
 use Rattle.dispatcher.proofs.Grown.{all_grown_same, grown_same}
 use Rattle.turn_cell.specs.Calls.{view_of}
@@ -48,7 +49,10 @@ pub returns-in-Spent-clause-may_halt : goal.returns-in-Spent-clause-may_halt
 returns-in-Spent-clause-may_halt g c = record { stops = (c.requires.fits.0, tt); faulted = λ is. absurd (cc) }
 
 pub returns-in-Reaped-clause-reaped : goal.returns-in-Reaped-clause-reaped
-returns-in-Reaped-clause-reaped g c = λ is. (c.in-Reaped.ensures.cached.did.0, c.reap_once-out.ensures.cached.adds.own ∙ ap (λ l. entries_of (view_of c.args.row.now.runner.cached) ++ l) c.in-Reaped.ensures.cached.did.1)
+returns-in-Reaped-clause-reaped g c = λ is.
+    let cached = c.reap_once-out.ensures.cached in
+    let did = subst (λ out. DidReap out cached.piece) c.in-Reaped.is cached.did in
+    (did.0, cached.adds.own ∙ ap (λ l. entries_of (view_of c.args.row.now.runner.cached) ++ l) did.1)
 
 pub returns-in-Spent-clause-reaped : goal.returns-in-Spent-clause-reaped
 returns-in-Spent-clause-reaped g c = λ is. absurd (cc)

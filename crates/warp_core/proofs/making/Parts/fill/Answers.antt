@@ -31,33 +31,6 @@ loop-row-preserved-in-Some g c =
       pollers = told_on (λ r. r.runner.poller) (λ k. k.poller) c.loop-row.kits.items c.push_reserved-in-loop-row.new.self.items _ row its left _ next.0 also.items refl v.pollers;
     }
 
-pub loop-row-preserved-in-Some-2 : goal.loop-row-preserved-in-Some-2
-loop-row-preserved-in-Some-2 g c =
-    let v = c.loop-row.invariant in
-    let row = c.in-Some.row in
-    let next = c.in-Some.ensures.steps in
-    let put = c.push_reserved.ensures in
-    let also = c.push_reserved-in-loop-row.ensures in
-    let its = into_iter_items c.loop-row.row-iterator in
-    let left = into_iter_items c.next.new.self in
-    let one = length_push c.loop-row.passes.items c.push_reserved.new.self.items (passes_of row) put.items in
-    let two = length_push c.loop-row.kits.items c.push_reserved-in-loop-row.new.self.items _ also.items in
-    let many = v.many in
-    let both = v.both in
-    let room = v.room in
-    let space = v.space in
-    let step = next.1 in
-    let cap = put.capacity in
-    let caps = also.capacity in record {
-      many = omega arith;
-      both = omega arith;
-      room = omega arith;
-      space = omega arith;
-      passes = moved_on passes_of c.loop-row.passes.items c.push_reserved.new.self.items row its left _ next.0 put.items v.passes;
-      books = told_on (λ r. r.runner.book) (λ k. k.book) c.loop-row.kits.items c.push_reserved-in-loop-row.new.self.items _ row its left _ next.0 also.items refl v.books;
-      pollers = told_on (λ r. r.runner.poller) (λ k. k.poller) c.loop-row.kits.items c.push_reserved-in-loop-row.new.self.items _ row its left _ next.0 also.items refl v.pollers;
-    }
-
 pub loop-row-preserved : goal.loop-row-preserved
 loop-row-preserved g c =
     let v = c.loop-row.invariant in
