@@ -1,6 +1,6 @@
 -- Inner: what a server that served a load leaves, with pollers that never fail.
 use Rattle.std.proofs.Common.{◌≡◌, ℕ, ◌+◌, List, [], ◌∷◌, ◌++◌, length, Result, Ok, Err, IfOk, refl, sym, ap, ◌∙◌, subst, zero-add}
-use Rattle.std.specs.Prelude.{All}
+use Rattle.std.specs.Prelude.{All, get_or}
 use Rattle.std.proofs.lemmas.List.Elements.{All-push}
 use Rattle.std.specs.Arc.{arc_value}
 use Rattle.outside.specs.declared.files.Files.{Ghosts}
@@ -48,7 +48,7 @@ module _ {P F C G L I X E : Type 0} {H : Ghosts F X} where
   was_driven faults none connections dispatchers count (Ok s) is own level law explained counted ends same = record {
     own = own;
     level = level;
-    callbacks = law s.passes.items (λ k x here. lawful_of (arc_value s.shared) x (own k x here)) level;
+    callbacks = law s.passes.items (λ k other here. lawful_of (arc_value s.shared) (get_or s.passes.items k other) (own k other here)) level;
     explained = explained;
     count = counted ∙ is;
     ends = subst (λ (n : ℕ). EndsSo pass_view connections s.end s.passes.items n) (no_polls faults none s.kits.items) ends;

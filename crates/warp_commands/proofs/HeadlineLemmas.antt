@@ -1,6 +1,6 @@
 -- Inner: what passes keep that were brought level.
 use Rattle.std.proofs.Common.{ℕ, List, [], ◌∷◌}
-use Rattle.std.specs.Prelude.{All}
+use Rattle.std.specs.Prelude.{All, get_or}
 use Rattle.reg_keys.specs.Promises.{RunsOnce, HasOneEventEach}
 use Rattle.reg_keys.specs.AllStripes.{HappensOnce}
 use Rattle.event_mgr.specs.Manager.{MgrView, IsLawful, seen_in}
@@ -23,7 +23,8 @@ module _ {A L : Type 0} (known : A → PassView L) where
       → (xs : List A) → All (λ y. IsLawfulPass (known y)) xs → ArePassesLevel known xs → KeepsCallbacks known xs
   keeps_callbacks once event everywhere law xs lawful level = record {
     calls = stands law xs lawful level;
-    callbacks = λ k x here.
-        let its = (lawful k x here).mgr in
-        record { once = λ s. once (known x).mgr s its; event = λ s. event (known x).mgr s its; everywhere = everywhere (known x).mgr its };
+    callbacks = λ k other here.
+        let v = (known (get_or xs k other)).mgr in
+        let its = (lawful k other here).mgr in
+        record { once = λ s. once v s its; event = λ s. event v s its; everywhere = everywhere v its };
   }

@@ -27,7 +27,7 @@ octets_read first second third fourth =
     (octet_read fourth)) (octet_read third)) (octet_read second)) (octet_read first)
 
 -- an address of IPv4: four numbers of 0 to 255, with a dot between each two
-abbrev pub address_read : List ℕ → Option (List ℕ)
+unfoldable pub address_read : List ℕ → Option (List ℕ)
 address_read word =
     option_and_then (λ x. option_and_then (λ y. option_and_then (λ z. octets_read x.0 y.0 z.0 z.1)
     (dot_split y.1)) (dot_split x.1)) (dot_split word)
@@ -42,7 +42,7 @@ pub record ServiceTold : Type 0 where
 
 -- the service that five words name: an address, a port of 1 to 65,535, 1 to 64 dispatchers, 1 to 4,294,967,295 connections,
 -- and 1 to 86,400 seconds
-abbrev pub service_read : (address port dispatchers connections seconds : List ℕ) → Option ServiceTold
+unfoldable pub service_read : (address port dispatchers connections seconds : List ℕ) → Option ServiceTold
 service_read address port dispatchers connections seconds =
     option_and_then (λ a. option_and_then (λ p. option_and_then (λ d. option_and_then (λ c. option_map (λ s. record { address = a; port = p; dispatchers = d; connections = c; seconds = s })
     (option_and_then (number_within 1 86400) (number_read seconds)))

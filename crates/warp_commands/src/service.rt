@@ -27,6 +27,7 @@ pub struct Service {
 }
 
 /// The service that five words name.
+#[tactic(auto, unfolding(crate::specs::ServiceWords::service_read))]
 pub(crate) fn service_in(
     address: &str,
     port: &str,
@@ -47,6 +48,7 @@ pub(crate) fn service_in(
 }
 
 /// The address that a word is: four numbers, 0 to 255, with a dot between each two.
+#[tactic(auto, unfolding(crate::specs::ServiceWords::address_read))]
 fn address_in(word: &str) -> Option<[u8; 4]>
     ensures { result ≡ address_read word.now }
 {

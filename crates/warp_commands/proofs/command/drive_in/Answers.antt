@@ -1,5 +1,5 @@
 use Rattle.warp_commands.proofs.WordLemmas.{dispatchers_within}
 use Rattle.warp_commands.proofs.command.drive_in.Goals as goal
 
-pub returns-in-Some-Some-clause-dispatchers : goal.returns-in-Some-Some-clause-dispatchers
-returns-in-Some-Some-clause-dispatchers c = dispatchers_within c.args.dispatchers.now c.in-Some-Some.dispatchers (cc)
+pub returns-in-Some-Some-clause-within : goal.returns-in-Some-Some-clause-within
+returns-in-Some-Some-clause-within c = dispatchers_within c.args.dispatchers.now c.in-Some-Some.dispatchers (cc)

@@ -1,10 +1,10 @@
 use Rattle.warp_commands.proofs.AnsweredLemmas.{untouched}
 use Rattle.warp_commands.proofs.connection.carried_out.Goals as goal
 
-pub returns-in-Ok-Drive-clause-answered : goal.returns-in-Ok-Drive-clause-answered
-returns-in-Ok-Drive-clause-answered g c =
+pub returns-in-Ok-Serve-clause-answered : goal.returns-in-Ok-Serve-clause-answered
+returns-in-Ok-Serve-clause-answered g c =
     untouched c.nothing_is_open.ensures _ (g.C.Clock.told c.args.clock.now) g.F.Files.folder (g.L.Link.told c.args.link.now) tt (g.met.L.Link.ended_told c.args.link.now) c.requires
 
-pub returns-in-Ok-Drive-2-clause-answered : goal.returns-in-Ok-Drive-2-clause-answered
-returns-in-Ok-Drive-2-clause-answered g c =
+pub returns-in-Ok-Serve-2-clause-answered : goal.returns-in-Ok-Serve-2-clause-answered
+returns-in-Ok-Serve-2-clause-answered g c =
     untouched c.nothing_is_open.ensures _ (g.C.Clock.told c.args.clock.now) g.F.Files.folder (g.L.Link.told c.args.link.now) tt (g.met.L.Link.ended_told c.args.link.now) c.requires
