@@ -4,6 +4,8 @@
 //! books are handed out empty. Nothing is claimed of what the system does.
 #![tactic(auto)]
 
+mod held_files;
 mod sock_front;
 
+pub use held_files::{HeldClock, HeldFiles};
 pub use sock_front::SockFront;

@@ -3,12 +3,14 @@ ghost use Rattle.std.specs.Prelude.{◌≡◌, ◌≤◌, [], All, IfOk, None, l
 ghost use Rattle.warp_books.specs.Books.{IsBookOf};
 ghost use Rattle.warp_books.specs.EndCounts.{book_told};
 
-use outside::{Count, Files, OsClock, OsFiles, RootOut};
+use crate::held_files::{HeldClock, HeldFiles};
+use outside::{Count, Files, RootOut};
 use socket_poller::{SockFault, SockListener, SockPoller};
 use std::alloc::Global;
 use std::net::Net;
 use std::os::unix::fs::FileExt;
 use std::rt;
+use std::sync::Arc;
 use warp_books::SumBook;
 use warp_front::{Front, KitsOut, ListenOut};
 use warp_jobs::{FreeGate, Kit};
@@ -23,8 +25,8 @@ struct Place {
 /// What a server over sockets begins with: it listens over TCP, and its dispatchers work with sockets, the system's files and
 /// the system's time, and with books that keep sums.
 #[derive(Drop)]
-pub struct SockFront<'a, R> {
-    rt: &'a R,
+pub struct SockFront<R> {
+    rt: Arc<R, Global>,
     alloc: Global,
     place: Option<Place>,
     root: Option<String>,
@@ -32,14 +34,14 @@ pub struct SockFront<'a, R> {
 }
 
 /// What each dispatcher works with.
-type SockKit<'a, R> = Kit<SockPoller<'a, R>, OsFiles<'a, R>, OsClock<'a, R>, SumBook, FreeGate>;
+type SockKit<R> = Kit<SockPoller<R>, HeldFiles<R>, HeldClock<R>, SumBook, FreeGate>;
 
-impl<'a, R> SockFront<'a, R> {
+impl<R> SockFront<R> {
     ghost use Rattle.std.specs.Prelude.{◌≡◌, None};
     ghost use Rattle.sock_front.specs.SockFronts.{told_of};
 
     /// A front of which nothing was asked, over this runtime.
-    pub fn new(rt: &'a R, alloc: Global) -> SockFront<'a, R>
+    pub fn new(rt: Arc<R, Global>, alloc: Global) -> SockFront<R>
         ensures { told_of result ≡ record { place = None; root = None; faults = 0 } }
     {
         SockFront {
@@ -52,17 +54,17 @@ impl<'a, R> SockFront<'a, R> {
     }
 }
 
-impl<'a, R: Net + rt::Files + rt::Clock> SockFront<'a, R>
+impl<R: Net + rt::Files + rt::Clock + Drop> SockFront<R>
 where
     R::File: FileExt,
 {
     /// So many kits over the files below the root. Where the root is no folder any more, the machine refused.
-    fn made(&self, root: &str, count: usize) -> Result<Vec<SockKit<'a, R>>, SockFault>
+    fn made(&self, root: &str, count: usize) -> Result<Vec<SockKit<R>>, SockFault>
         requires { (1 ≤ count) × (count ≤ 64) }
         ensures count { IfOk result (λ kits. length kits.items ≡ count) }
         ensures books { IfOk result (λ kits. All (λ kit. IsBookOf [] (book_told kit.book)) kits.items) }
     {
-        let pollers = SockPoller::group(self.rt, self.rt, self.alloc, count)?;
+        let pollers = SockPoller::group(&*self.rt, &self.rt, self.alloc, count)?;
         let mut kits = Vec::with_capacity(self.alloc, count)?;
         for poller in pollers {
             kits.push(self.kit(poller, root)?)?;
@@ -71,10 +73,10 @@ where
     }
 
     /// The kit of a poller.
-    fn kit(&self, poller: SockPoller<'a, R>, root: &str) -> Result<SockKit<'a, R>, SockFault>
+    fn kit(&self, poller: SockPoller<R>, root: &str) -> Result<SockKit<R>, SockFault>
         ensures { IfOk result (λ kit. IsBookOf [] (book_told kit.book)) }
     {
-        let mut files = OsFiles::new(self.alloc, self.rt);
+        let mut files = HeldFiles::new(Arc::try_clone(&self.rt)?, self.alloc);
         match files.root(root) {
             RootOut::Present => {}
             RootOut::NoMemory => return Err(SockFault::NoMemory),
@@ -83,22 +85,22 @@ where
         Ok(Kit {
             poller,
             files,
-            clock: OsClock::new(self.rt),
+            clock: HeldClock::new(Arc::try_clone(&self.rt)?),
             book: SumBook::new(),
             gate: FreeGate,
         })
     }
 }
 
-impl<'a, R: Net + rt::Files + rt::Clock + Sync> Front for SockFront<'a, R>
+impl<R: Net + rt::Files + rt::Clock + Send + Sync + Drop> Front for SockFront<R>
 where
     R::File: FileExt,
 {
-    type Poller = SockPoller<'a, R>;
+    type Poller = SockPoller<R>;
 
-    type Files = OsFiles<'a, R>;
+    type Files = HeldFiles<R>;
 
-    type Clock = OsClock<'a, R>;
+    type Clock = HeldClock<R>;
 
     type Gate = FreeGate;
 
@@ -107,7 +109,7 @@ where
     ghost told = { told_of };
 
     fn listen(&mut self, address: [u8; 4], port: u16) -> ListenOut<SockListener> {
-        let answer = match SockListener::bind(self.rt, address, port) {
+        let answer = match SockListener::bind(&*self.rt, address, port) {
             Ok(listener) => ListenOut::Listening(listener),
             Err(SockFault::NoMemory) => return ListenOut::NoMemory,
             Err(SockFault::Machine(_)) => {
@@ -119,7 +121,7 @@ where
         answer
     }
 
-    fn kits(&mut self, root: &str, count: usize) -> KitsOut<SockKit<'a, R>> {
+    fn kits(&mut self, root: &str, count: usize) -> KitsOut<SockKit<R>> {
         let Ok(text) = String::from_str(self.alloc, root) else {
             return KitsOut::NoMemory;
         };

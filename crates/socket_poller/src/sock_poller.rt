@@ -25,8 +25,8 @@ use std::time::Duration;
 
 /// A poller of sockets. Those of one server are made together and share its links.
 #[derive(Drop)]
-pub struct SockPoller<'a, R> {
-    clock: &'a R,
+pub struct SockPoller<R> {
+    clock: Arc<R, Global>,
     poll: Poll,
     events: Events,
     /// Whether the last poll asked the system.
@@ -40,17 +40,17 @@ pub struct SockPoller<'a, R> {
     ghost within: { place < vec_len (arc_value group).sets },
 }
 
-impl<'a, R> SockPoller<'a, R> {
+impl<R: Drop> SockPoller<R> {
     ghost use Rattle.std.specs.Prelude.{All};
     ghost use Rattle.socket_poller.specs.SockPolls.{faults_of, lingering_of, no_faults};
 
     /// So many pollers, one for each dispatcher. The clock tells how long links lingered.
     pub fn group<N: Net>(
         net: &N,
-        clock: &'a R,
+        clock: &Arc<R, Global>,
         alloc: Global,
         count: usize,
-    ) -> Result<Vec<SockPoller<'a, R>>, SockFault>
+    ) -> Result<Vec<SockPoller<R>>, SockFault>
         requires { (1 ≤ count) × (count ≤ POLLERS) }
         ensures count { IfOk result (λ pollers. vec_len pollers ≡ count) }
         ensures fresh { IfOk result (λ pollers. All (λ p. faults_of p ≡ no_faults) pollers.items) }
@@ -64,6 +64,7 @@ impl<'a, R> SockPoller<'a, R> {
         for poll in polls {
             let place = pollers.len();
             let group = Arc::try_clone(&group)?;
+            let clock = Arc::try_clone(clock)?;
             pollers.push(SockPoller::new(alloc, clock, poll, group, place)?)?;
         }
         Ok(pollers)
@@ -80,11 +81,11 @@ impl<'a, R> SockPoller<'a, R> {
     /// The poller of one set of a group.
     fn new(
         alloc: Global,
-        clock: &'a R,
+        clock: Arc<R, Global>,
         poll: Poll,
         group: Arc<Group, Global>,
         place: usize,
-    ) -> Result<SockPoller<'a, R>, SockFault>
+    ) -> Result<SockPoller<R>, SockFault>
         requires { place < vec_len (arc_value group).sets }
         ensures { IfOk result (λ poller. faults_of poller ≡ no_faults) }
     {
@@ -122,7 +123,7 @@ fn hear(events: &Events, set: &Set, ends: &PeerEnds, lingerers: &mut Lingerers, 
     }
 }
 
-impl<'a, R: Clock> Poller for SockPoller<'a, R> {
+impl<R: Clock> Poller for SockPoller<R> {
     type Link = SockLink;
 
     type Listener = SockListener;
@@ -169,7 +170,7 @@ impl<'a, R: Clock> Poller for SockPoller<'a, R> {
         self.asked = true;
         self.group.join(self.place);
         let set = &self.group.sets[self.place];
-        self.lingerers.tend(set, self.clock);
+        self.lingerers.tend(set, &*self.clock);
         let millis = if idle { IDLE_MILLIS } else { 0 };
         let wait = Duration::from_millis(millis);
         if self.poll.poll(&mut self.events, Some(wait)).is_err() {

@@ -27,13 +27,13 @@ const REQUESTS: &[u8] =
 const ANSWERS: usize = 1_422;
 
 /// What the program is run with here: a server's front over sockets, and lines that go to memory.
-type SockHost<'a> = Host<
+type SockHost = Host<
     PieceLink,
-    OsFiles<'a, HostRuntime>,
-    OsClock<'a, HostRuntime>,
+    HeldFiles<HostRuntime>,
+    HeldClock<HostRuntime>,
     MemSink,
     MemSink,
-    SockFront<'a, HostRuntime>,
+    SockFront<HostRuntime>,
 >;
 
 /// A page and a text of 1,000 letters, in a folder of this test's own.
@@ -82,7 +82,7 @@ fn words(
 }
 
 /// What the program is run with.
-fn host(rt: &HostRuntime) -> Result<SockHost<'_>, AllocError> {
+fn host(rt: &HostRuntime) -> Result<SockHost, AllocError> {
     let alloc = rt.alloc();
     Ok(Host {
         link: PieceLink::new(alloc, Vec::new(alloc), Vec::new(alloc), 0)?,
@@ -139,7 +139,7 @@ fn say_nothing(rt: &HostRuntime, port: u16) -> Option<usize> {
 }
 
 /// How many connections ended in this way, by the books of the server that was left.
-fn ended(host: &SockHost<'_>, kind: Finish) -> u64 {
+fn ended(host: &SockHost, kind: Finish) -> u64 {
     let mut count = 0u64;
     if let Some(served) = &host.served {
         for kit in &served.kits {

@@ -8,21 +8,31 @@ use sock_front::SockFront;
 use std::env;
 use std::io::ErrorKind;
 use std::process::ExitCode;
+use std::sync::Arc;
 use warp_commands::{Host, Status, refuse, run};
 
 fn main(rt: HostRuntime) -> ExitCode {
+    let alloc = rt.alloc();
+    let mut errors = StdSink::new(rt.stderr());
+    // The runtime is held by the front and by what it makes, whose types then name no lifetime.
+    let Ok(rt) = Arc::new(alloc, rt) else {
+        return ExitCode::from(refuse(&mut errors, Status::NoMemory));
+    };
+    let Ok(held) = Arc::try_clone(&rt) else {
+        return ExitCode::from(refuse(&mut errors, Status::NoMemory));
+    };
     let mut host = Host {
         link: StdLink::new(rt.stdin(), rt.stdout()),
-        files: OsFiles::new(rt.alloc(), &rt),
-        clock: OsClock::new(&rt),
+        files: OsFiles::new(alloc, &*rt),
+        clock: OsClock::new(&*rt),
         out: StdSink::new(rt.stdout()),
-        errors: StdSink::new(rt.stderr()),
-        front: SockFront::new(&rt, rt.alloc()),
+        errors,
+        front: SockFront::new(held, alloc),
         served: None,
         driven: None,
     };
-    let code = match words_of(&rt) {
-        Ok(words) => run(&rt, rt.alloc(), &words, &mut host),
+    let code = match words_of(&*rt) {
+        Ok(words) => run(&*rt, alloc, &words, &mut host),
         Err(status) => refuse(&mut host.errors, status),
     };
     ExitCode::from(code)

@@ -1,5 +1,7 @@
 //! A server and a client in two threads.
-use super::set_up::{LOOKS, accept_and_add, answer, connect, listen, opening, poll, wait_for};
+use super::set_up::{
+    LOOKS, accept_and_add, answer, connect, listen, opening, poll, set_clock, wait_for,
+};
 use crate::{SockLink, SockListener, SockPoller};
 use outside::{AcceptOut, Link, Listener};
 use poller::Reports;
@@ -42,7 +44,7 @@ fn send_and_read(client: &mut TcpStream, body: &[u8]) -> Option<usize> {
 /// no other connection came.
 fn refuse<C: Clock, R: Wait>(
     rt: &R,
-    poller: &mut SockPoller<'_, C>,
+    poller: &mut SockPoller<C>,
     reports: &mut Reports,
     mut link: SockLink,
     opening: Opening,
@@ -66,7 +68,7 @@ fn refuse<C: Clock, R: Wait>(
 /// A client that sends a body, beside a server that refuses it.
 fn refuse_beside<C: Clock + Sync, R: Threads + Wait + Sync>(
     rt: &R,
-    poller: &mut SockPoller<'_, C>,
+    poller: &mut SockPoller<C>,
     reports: &mut Reports,
     link: SockLink,
     listener: &mut SockListener,
@@ -84,7 +86,7 @@ fn refuse_beside<C: Clock + Sync, R: Threads + Wait + Sync>(
 #[test]
 fn the_answer_to_a_refused_body_is_read_whole(rt: HostRuntime) -> Result<(), Fail> {
     let mut listener = listen(&rt)?;
-    let mut pollers = SockPoller::group(&rt, &rt, rt.alloc(), 1)?;
+    let mut pollers = SockPoller::group(&rt, &set_clock(rt.alloc())?, rt.alloc(), 1)?;
     let mut reports = Reports::new(rt.alloc())?;
     let poller = &mut pollers[0];
     let mut client = connect(&rt, &listener)?;

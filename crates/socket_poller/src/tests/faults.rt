@@ -1,5 +1,5 @@
 //! Peers that go away, and descriptors that run out.
-use super::set_up::{LOOKS, accept, accept_and_add, answer, connect, listen, opening};
+use super::set_up::{LOOKS, accept, accept_and_add, answer, connect, listen, opening, set_clock};
 use crate::{SockLink, SockListener, SockPoller};
 use outside::{AcceptOut, Link, Listener, ReadOut, WriteOut};
 use std::io::{ErrorKind, Read, Write};
@@ -23,7 +23,7 @@ fn write_until_it_fails(rt: &HostRuntime, link: &mut SockLink) -> bool {
 #[test]
 fn a_peer_that_goes_away_is_a_fault_of_its_link_alone(rt: HostRuntime) -> Result<(), Fail> {
     let mut listener = listen(&rt)?;
-    let mut pollers = SockPoller::group(&rt, &rt, rt.alloc(), 1)?;
+    let mut pollers = SockPoller::group(&rt, &set_clock(rt.alloc())?, rt.alloc(), 1)?;
     let client = connect(&rt, &listener)?;
     let mut link = accept_and_add(&rt, &mut listener, &mut pollers[0], opening(0))?;
     let mut other = connect(&rt, &listener)?;

@@ -1,52 +1,23 @@
 //! Links that are let go while their peers are sending still.
-use super::set_up::{LOOKS, accept_and_add, answer, connect, listen, opening, poll, wait_for};
+use super::set_up::{
+    LOOKS, SetClock, accept_and_add, answer, connect, listen, opening, poll, set_clock, wait_for,
+};
 use crate::{LINGER_SECONDS, LINGERING, SockListener, SockPoller};
 use outside::{Link, ReadOut};
 use poller::Reports;
 use std::io::{ErrorKind, Read, Write};
 use std::net::{Net, Shutdown, TcpStream};
-use std::rt::Clock;
 use std::sync::Wait;
-use std::sync::atomic::{AtomicU64, Ordering};
 use std::test::Fail;
+use std::thread;
 use std::time::Duration;
-use std::{io, thread};
-
-/// A clock that a test sets.
-#[derive(Drop)]
-struct SetClock {
-    seconds: AtomicU64,
-}
-
-impl SetClock {
-    fn new() -> SetClock {
-        SetClock {
-            seconds: AtomicU64::new(1),
-        }
-    }
-
-    /// Sets it on by so many seconds.
-    fn pass(&self, seconds: u64) {
-        self.seconds.fetch_add(seconds, Ordering::SeqCst);
-    }
-}
-
-impl Clock for SetClock {
-    fn monotonic(&self) -> io::Result<Duration> {
-        Ok(Duration::from_secs(self.seconds.load(Ordering::SeqCst)))
-    }
-
-    fn since_1970(&self) -> io::Result<Duration> {
-        self.monotonic()
-    }
-}
 
 /// Lets a link of a client go, which was asked with a byte and answered with three.
 fn answer_and_let_go<R: Net<Stream = TcpStream> + Wait>(
     rt: &R,
     clock: &SetClock,
     listener: &mut SockListener,
-    poller: &mut SockPoller<'_, SetClock>,
+    poller: &mut SockPoller<SetClock>,
     reports: &mut Reports,
 ) -> Result<TcpStream, Fail> {
     let mut client = connect(rt, listener)?;
@@ -66,7 +37,7 @@ fn answer_and_let_go<R: Net<Stream = TcpStream> + Wait>(
 }
 
 /// Polls so often that each place was looked at.
-fn poll_round<R: Wait>(rt: &R, poller: &mut SockPoller<'_, SetClock>, reports: &mut Reports) {
+fn poll_round<R: Wait>(rt: &R, poller: &mut SockPoller<SetClock>, reports: &mut Reports) {
     for _ in 0..20 {
         poll(rt, poller, reports);
     }
@@ -86,11 +57,11 @@ fn may_send(rt: &HostRuntime, client: &mut TcpStream) -> bool {
 #[test]
 fn a_link_lingers_until_its_time_is_over(rt: HostRuntime) -> Result<(), Fail> {
     let mut listener = listen(&rt)?;
-    let clock = SetClock::new();
+    let clock = set_clock(rt.alloc())?;
     let mut pollers = SockPoller::group(&rt, &clock, rt.alloc(), 1)?;
     let mut reports = Reports::new(rt.alloc())?;
     let poller = &mut pollers[0];
-    let mut client = answer_and_let_go(&rt, &clock, &mut listener, poller, &mut reports)?;
+    let mut client = answer_and_let_go(&rt, &*clock, &mut listener, poller, &mut reports)?;
     poll_round(&rt, poller, &mut reports);
     clock.pass(LINGER_SECONDS - 1);
     poll_round(&rt, poller, &mut reports);
@@ -109,11 +80,11 @@ fn a_link_lingers_until_its_time_is_over(rt: HostRuntime) -> Result<(), Fail> {
 #[test]
 fn a_link_lingers_until_its_peer_ends(rt: HostRuntime) -> Result<(), Fail> {
     let mut listener = listen(&rt)?;
-    let clock = SetClock::new();
+    let clock = set_clock(rt.alloc())?;
     let mut pollers = SockPoller::group(&rt, &clock, rt.alloc(), 1)?;
     let mut reports = Reports::new(rt.alloc())?;
     let poller = &mut pollers[0];
-    let mut client = answer_and_let_go(&rt, &clock, &mut listener, poller, &mut reports)?;
+    let mut client = answer_and_let_go(&rt, &*clock, &mut listener, poller, &mut reports)?;
     poll_round(&rt, poller, &mut reports);
     assert_eq!(rt; poller.lingering(), 1);
     client.shutdown(Shutdown::Write)?;
@@ -126,7 +97,7 @@ fn a_link_lingers_until_its_peer_ends(rt: HostRuntime) -> Result<(), Fail> {
 fn send_pieces<R: Wait>(
     rt: &R,
     client: &mut TcpStream,
-    poller: &mut SockPoller<'_, SetClock>,
+    poller: &mut SockPoller<SetClock>,
     reports: &mut Reports,
     piece: &[u8],
     pieces: u32,
@@ -150,11 +121,11 @@ fn send_pieces<R: Wait>(
 #[test]
 fn a_peer_that_sends_too_much_is_closed(rt: HostRuntime) -> Result<(), Fail> {
     let mut listener = listen(&rt)?;
-    let clock = SetClock::new();
+    let clock = set_clock(rt.alloc())?;
     let mut pollers = SockPoller::group(&rt, &clock, rt.alloc(), 1)?;
     let mut reports = Reports::new(rt.alloc())?;
     let poller = &mut pollers[0];
-    let mut client = answer_and_let_go(&rt, &clock, &mut listener, poller, &mut reports)?;
+    let mut client = answer_and_let_go(&rt, &*clock, &mut listener, poller, &mut reports)?;
     poll_round(&rt, poller, &mut reports);
     let piece = Vec::from_elem(rt.alloc(), b'x', 65_536)?;
     let sent = send_pieces(&rt, &mut client, poller, &mut reports, &piece, 128)?;
@@ -169,13 +140,13 @@ fn a_peer_that_sends_too_much_is_closed(rt: HostRuntime) -> Result<(), Fail> {
 #[test]
 fn no_more_links_linger_than_there_are_places(rt: HostRuntime) -> Result<(), Fail> {
     let mut listener = listen(&rt)?;
-    let clock = SetClock::new();
+    let clock = set_clock(rt.alloc())?;
     let mut pollers = SockPoller::group(&rt, &clock, rt.alloc(), 1)?;
     let mut reports = Reports::new(rt.alloc())?;
     let poller = &mut pollers[0];
     let mut clients = Vec::new(rt.alloc());
     for _ in 0..LINGERING + 10 {
-        clients.push(answer_and_let_go(&rt, &clock, &mut listener, poller, &mut reports)?)?;
+        clients.push(answer_and_let_go(&rt, &*clock, &mut listener, poller, &mut reports)?)?;
     }
     poll_round(&rt, poller, &mut reports);
     assert_eq!(rt; poller.lingering(), LINGERING);
@@ -188,13 +159,13 @@ fn no_more_links_linger_than_there_are_places(rt: HostRuntime) -> Result<(), Fai
 #[test]
 fn a_link_that_was_not_answered_is_closed_at_once(rt: HostRuntime) -> Result<(), Fail> {
     let mut listener = listen(&rt)?;
-    let clock = SetClock::new();
+    let clock = set_clock(rt.alloc())?;
     let mut pollers = SockPoller::group(&rt, &clock, rt.alloc(), 1)?;
     let mut reports = Reports::new(rt.alloc())?;
     let poller = &mut pollers[0];
     let mut client = connect(&rt, &listener)?;
     client.write_all(b"?")?;
-    drop(accept_and_add(&clock, &mut listener, poller, opening(3))?);
+    drop(accept_and_add(&*clock, &mut listener, poller, opening(3))?);
     poll_round(&rt, poller, &mut reports);
     assert_eq!(rt; poller.lingering(), 0);
     assert!(rt; !may_send(&rt, &mut client));

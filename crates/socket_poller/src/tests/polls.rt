@@ -2,7 +2,8 @@
 ghost use Rattle.std.specs.Prelude.{◌≤◌};
 
 use super::set_up::{
-    accept, accept_and_add, answer, connect, listen, opening, poll, read_to_end, wait_for,
+    SetClock, accept, accept_and_add, answer, connect, listen, opening, poll, read_to_end,
+    set_clock, wait_for,
 };
 use crate::{SockFault, SockLink, SockListener, SockPoller};
 use outside::{Link, ReadOut};
@@ -14,7 +15,7 @@ use std::test::Fail;
 #[test]
 fn bytes_come_and_go_and_the_end_is_seen(rt: HostRuntime) -> Result<(), Fail> {
     let mut listener = listen(&rt)?;
-    let mut pollers = SockPoller::group(&rt, &rt, rt.alloc(), 1)?;
+    let mut pollers = SockPoller::group(&rt, &set_clock(rt.alloc())?, rt.alloc(), 1)?;
     let mut reports = Reports::new(rt.alloc())?;
     let mut client = connect(&rt, &listener)?;
     let poller = &mut pollers[0];
@@ -41,7 +42,7 @@ fn bytes_come_and_go_and_the_end_is_seen(rt: HostRuntime) -> Result<(), Fail> {
 #[test]
 fn a_short_read_is_followed_by_the_end_that_came_with_it(rt: HostRuntime) -> Result<(), Fail> {
     let mut listener = listen(&rt)?;
-    let mut pollers = SockPoller::group(&rt, &rt, rt.alloc(), 1)?;
+    let mut pollers = SockPoller::group(&rt, &set_clock(rt.alloc())?, rt.alloc(), 1)?;
     let mut reports = Reports::new(rt.alloc())?;
     let mut client = connect(&rt, &listener)?;
     client.write_all(b"bye")?;
@@ -58,7 +59,7 @@ fn a_short_read_is_followed_by_the_end_that_came_with_it(rt: HostRuntime) -> Res
 #[test]
 fn what_comes_behind_a_short_read_is_reported(rt: HostRuntime) -> Result<(), Fail> {
     let mut listener = listen(&rt)?;
-    let mut pollers = SockPoller::group(&rt, &rt, rt.alloc(), 1)?;
+    let mut pollers = SockPoller::group(&rt, &set_clock(rt.alloc())?, rt.alloc(), 1)?;
     let mut reports = Reports::new(rt.alloc())?;
     let mut client = connect(&rt, &listener)?;
     let poller = &mut pollers[0];
@@ -79,7 +80,7 @@ fn what_comes_behind_a_short_read_is_reported(rt: HostRuntime) -> Result<(), Fai
 #[test]
 fn every_second_poll_that_mustnt_wait_asks_the_system(rt: HostRuntime) -> Result<(), Fail> {
     let mut listener = listen(&rt)?;
-    let mut pollers = SockPoller::group(&rt, &rt, rt.alloc(), 1)?;
+    let mut pollers = SockPoller::group(&rt, &set_clock(rt.alloc())?, rt.alloc(), 1)?;
     let mut reports = Reports::new(rt.alloc())?;
     let _client = connect(&rt, &listener)?;
     let poller = &mut pollers[0];
@@ -100,7 +101,7 @@ fn every_second_poll_that_mustnt_wait_asks_the_system(rt: HostRuntime) -> Result
 fn add_links(
     rt: &HostRuntime,
     listener: &mut SockListener,
-    poller: &mut SockPoller<'_, HostRuntime>,
+    poller: &mut SockPoller<SetClock>,
     count: u16,
 ) -> Result<Vec<(TcpStream, SockLink)>, Fail>
     requires { count ≤ 4096 }
@@ -117,7 +118,7 @@ fn add_links(
 #[test]
 fn links_are_spread_over_the_pollers_that_poll(rt: HostRuntime) -> Result<(), Fail> {
     let mut listener = listen(&rt)?;
-    let mut pollers = SockPoller::group(&rt, &rt, rt.alloc(), 3)?;
+    let mut pollers = SockPoller::group(&rt, &set_clock(rt.alloc())?, rt.alloc(), 3)?;
     let mut reports = Reports::new(rt.alloc())?;
     assert_eq!(rt; poll(&rt, &mut pollers[0], &mut reports), 0);
     assert_eq!(rt; poll(&rt, &mut pollers[2], &mut reports), 0);
@@ -131,7 +132,7 @@ fn links_are_spread_over_the_pollers_that_poll(rt: HostRuntime) -> Result<(), Fa
 #[test]
 fn a_listener_is_reported_and_a_port_is_taken_once(rt: HostRuntime) -> Result<(), Fail> {
     let mut listener = listen(&rt)?;
-    let mut pollers = SockPoller::group(&rt, &rt, rt.alloc(), 1)?;
+    let mut pollers = SockPoller::group(&rt, &set_clock(rt.alloc())?, rt.alloc(), 1)?;
     let mut reports = Reports::new(rt.alloc())?;
     let poller = &mut pollers[0];
     assert_eq!(rt;

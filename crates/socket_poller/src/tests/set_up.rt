@@ -6,12 +6,14 @@ use crate::{SockLink, SockListener, SockPoller};
 use outside::{AcceptOut, Link, Listener, ReadOut, WriteOut};
 use poller::{AddOut, Poller, Reports};
 use reg_keys::{Dirs, Opening};
+use std::alloc::{AllocError, Global};
 use std::net::{Ipv4Addr, Net, SocketAddr, TcpStream};
 use std::rt::Clock;
-use std::sync::Wait;
+use std::sync::atomic::{AtomicU64, Ordering};
+use std::sync::{Arc, Wait};
 use std::test::Fail;
-use std::thread;
 use std::time::Duration;
+use std::{io, thread};
 
 /// How often a side looks at most, a millisecond or ten apart.
 pub(super) const LOOKS: u32 = 2_000;
@@ -28,6 +30,40 @@ pub(super) fn opening(fd: u16) -> Opening
         number: 320 + u64::from(fd % 32),
         fd,
     }
+}
+
+/// A clock that a test sets.
+#[derive(Drop)]
+pub(super) struct SetClock {
+    seconds: AtomicU64,
+}
+
+impl SetClock {
+    pub(super) fn new() -> SetClock {
+        SetClock {
+            seconds: AtomicU64::new(1),
+        }
+    }
+
+    /// Sets it on by so many seconds.
+    pub(super) fn pass(&self, seconds: u64) {
+        self.seconds.fetch_add(seconds, Ordering::SeqCst);
+    }
+}
+
+impl Clock for SetClock {
+    fn monotonic(&self) -> io::Result<Duration> {
+        Ok(Duration::from_secs(self.seconds.load(Ordering::SeqCst)))
+    }
+
+    fn since_1970(&self) -> io::Result<Duration> {
+        self.monotonic()
+    }
+}
+
+/// A clock that stands until it is set, for pollers.
+pub(super) fn set_clock(alloc: Global) -> Result<Arc<SetClock, Global>, AllocError> {
+    Ok(Arc::new(alloc, SetClock::new())?)
 }
 
 /// A listener at a free port of the loopback.
@@ -61,10 +97,10 @@ pub(super) fn accept<C: Clock>(clock: &C, listener: &mut SockListener) -> Result
 }
 
 /// The next link, added under an opening.
-pub(super) fn accept_and_add<C: Clock>(
+pub(super) fn accept_and_add<C: Clock, P: Clock>(
     clock: &C,
     listener: &mut SockListener,
-    poller: &mut SockPoller<'_, C>,
+    poller: &mut SockPoller<P>,
     opening: Opening,
 ) -> Result<SockLink, Fail>
     requires { HasToken opening }
@@ -79,7 +115,7 @@ pub(super) fn accept_and_add<C: Clock>(
 /// Polls once, asking the system, and gives how many reports came.
 pub(super) fn poll<C: Clock, R: Wait>(
     rt: &R,
-    poller: &mut SockPoller<'_, C>,
+    poller: &mut SockPoller<C>,
     reports: &mut Reports,
 ) -> usize {
     reports.clear();
@@ -90,7 +126,7 @@ pub(super) fn poll<C: Clock, R: Wait>(
 /// Polls until a report names an opening, for reading or not.
 pub(super) fn wait_for<C: Clock, R: Wait>(
     rt: &R,
-    poller: &mut SockPoller<'_, C>,
+    poller: &mut SockPoller<C>,
     reports: &mut Reports,
     opening: Opening,
     reading: bool,
@@ -112,7 +148,7 @@ pub(super) fn wait_for<C: Clock, R: Wait>(
 /// Reads until `NotYet` answers, the end or a fault, and polls in between. How many bytes came before the end.
 pub(super) fn read_to_end<C: Clock, R: Wait>(
     rt: &R,
-    poller: &mut SockPoller<'_, C>,
+    poller: &mut SockPoller<C>,
     reports: &mut Reports,
     link: &mut SockLink,
     opening: Opening,
