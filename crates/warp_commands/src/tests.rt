@@ -7,7 +7,6 @@ mod bodies;
 mod cuts;
 mod drives;
 mod files;
-mod services;
 
 use crate::run_connection;
 use outside::{MemClock, MemFile, MemFiles, MemSink, PieceLink, Place, ReadEvent, WriteEvent};
