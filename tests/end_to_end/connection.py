@@ -3,120 +3,31 @@
     connection.py [-v] PROGRAM [NAME..]     all checks, or those named; -v prints the name of each
 """
 import http.client
-import io
 import os
 import re
 import select
-import shutil
 import socket
 import subprocess
 import sys
-import tempfile
 import threading
 import time
 from pathlib import Path
 
-SITE = Path(__file__).resolve().parent.parent.parent / "examples" / "site"
-USAGE = (
-    "usage: warp_serve connection ROOT | serve ROOT ADDR PORT DISPATCHERS CONNECTIONS SECONDS"
-    " | drive SEED CONNECTIONS REQUESTS DISPATCHERS"
+from checks import (
+    DATE,
+    TYPES,
+    USAGE,
+    answer_of,
+    checks_in,
+    get,
+    lay,
+    main,
+    pattern,
+    peak_memory,
+    read_answers,
+    request,
+    tool,
 )
-TYPES = {
-    ".html": "text/html; charset=utf-8",
-    ".txt": "text/plain; charset=utf-8",
-    ".css": "text/css; charset=utf-8",
-    ".js": "text/javascript; charset=utf-8",
-    ".json": "application/json",
-    ".svg": "image/svg+xml",
-    ".png": "image/png",
-    ".bin": "application/octet-stream",
-}
-DATE = re.compile(rb"\r\nDate: (Mon|Tue|Wed|Thu|Fri|Sat|Sun), \d\d [A-Z][a-z][a-z] \d{4} \d\d:\d\d:\d\d GMT\r\n")
-NOBODY = 65534
-
-
-class Program:
-    """The program in a folder of its own, that an unprivileged user can reach."""
-
-    def __init__(self, built, folder):
-        self.path = Path(folder) / "warp_serve"
-        shutil.copy(built, self.path)
-        self.path.chmod(0o755)
-
-    def lowered(self):
-        """What makes a run one of nobody, where this is root."""
-        return {"user": NOBODY, "group": NOBODY, "extra_groups": []} if os.geteuid() == 0 else {}
-
-    def start(self, words):
-        """A run whose pipes stay in the caller's hands."""
-        return subprocess.Popen(
-            [self.path, *words], stdin=subprocess.PIPE, stdout=subprocess.PIPE, stderr=subprocess.PIPE, **self.lowered()
-        )
-
-    def run(self, words, text=b"", timeout=60, **streams):
-        """The status, the bytes written and the error text of a run, as nobody where this is root."""
-        given = {} if "stdin" in streams else {"input": text}
-        streams.setdefault("stdout", subprocess.PIPE)
-        done = subprocess.run(
-            [self.path, *words], stderr=subprocess.PIPE, timeout=timeout, **self.lowered(), **given, **streams
-        )
-        return done.returncode, done.stdout, done.stderr.decode()
-
-
-def make_folder(top):
-    """A folder of its own, with files of each kind, one that may not be read, and one below."""
-    top.mkdir(mode=0o755)
-    (top / "sub").mkdir(mode=0o755)
-    files = {
-        "index.html": b"hi\n",
-        "a.txt": bytes(97 + k % 26 for k in range(1000)),
-        "big.bin": bytes(k % 251 for k in range(40000)),
-        "empty.txt": b"",
-        "sub/index.html": b"sub\n",
-    }
-    for name, content in files.items():
-        (top / name).write_bytes(content)
-        (top / name).chmod(0o644)
-    (top / "secret.txt").write_bytes(b"not for everybody\n")
-    (top / "secret.txt").chmod(0)
-    return files
-
-
-def answer_of(content, kind, connection=""):
-    """The one answer with a file, with the Date left as it is cut out of what was written."""
-    head = f"HTTP/1.1 200 OK\r\nServer: warp-profile\r\nContent-Type: {kind}\r\nContent-Length: {len(content)}\r\n"
-    return (head + connection + "\r\n").encode() + content
-
-
-class NotRun(Exception):
-    """A check that can't be run here, with the reason."""
-
-
-class Checks:
-    def __init__(self):
-        self.passed = self.failed = 0
-        self.not_run = []
-
-    def equal(self, what, got, want):
-        if got == want:
-            self.passed += 1
-        else:
-            self.failed += 1
-            print(f"end to end: {what}: got {str(got)[:400]}, not {str(want)[:400]}")
-
-
-class Site:
-    """The folders that the checks serve."""
-
-    def __init__(self, folder):
-        self.folder = Path(folder)
-        self.top = self.folder / "root"
-        self.files = make_folder(self.top)
-        self.root = ["connection", str(self.top)]
-
-
-def get(target, more=""):
-    return f"GET {target} HTTP/1.1\r\nHost: a\r\n{more}\r\n".encode()
 
 
 def compare_files(checks, program, top, files):
@@ -135,10 +46,7 @@ def check_files(checks, program, site):
 
 def check_site(checks, program, site):
     """The site of the repository is served whole, each file with its type."""
-    top = site.folder / "site"
-    shutil.copytree(SITE, top)
-    for path in [top, *top.rglob("*")]:
-        path.chmod(0o755 if path.is_dir() else 0o644)
+    top = site.examples()
     files = {str(p.relative_to(top)): p.read_bytes() for p in sorted(top.rglob("*")) if p.is_file()}
     compare_files(checks, program, top, files)
     text = b"".join(get("/" + name) for name in files)
@@ -149,9 +57,7 @@ def check_site(checks, program, site):
 
 def check_paths(checks, program, site):
     """What is not in the folder is not found, whatever the path says."""
-    outside = site.folder / "outside.txt"
-    outside.write_bytes(b"outside\n")
-    outside.chmod(0o644)
+    lay(site.folder / "outside.txt", b"outside\n")
     for target in ("/nope", "/secret.txt", "/../outside.txt", "/%2e%2e/outside.txt", "/a%2Fb", "//a.txt", "/.x", "/a.txt/"):
         status, out, error = program.run(site.root, get(target))
         checks.equal(f"GET {target}", (status, out[:24], error), (0, b"HTTP/1.1 404 Not Found\r\n", ""))
@@ -184,11 +90,7 @@ def check_statuses(checks, program, site):
 
 def check_faults(checks, program, site):
     """A fault of a stream ends the connection with that stream's status."""
-    reader, writer = os.pipe()
-    os.close(reader)
-    got = program.run(site.root, get("/"), stdout=writer)
-    os.close(writer)
-    checks.equal("a closed standard output", (got[0], got[2]), (4, "write fault\n"))
+    checks.equal("a closed standard output", program.run_closed(site.root, get("/")), (4, "write fault\n"))
     folder_in = os.open(site.folder, os.O_RDONLY)
     got = program.run(site.root, stdin=folder_in)
     os.close(folder_in)
@@ -197,7 +99,7 @@ def check_faults(checks, program, site):
 
 def check_cutting(checks, program, site):
     """Requests that come a byte at a time are answered as in one piece: the first forty bytes each after a wait."""
-    text = get("/") + get("/a.txt") + b"HEAD /a.txt HTTP/1.1\r\nHost: a\r\n\r\n"
+    text = get("/") + get("/a.txt") + request("HEAD", "/a.txt")
     _, whole, _ = program.run(site.root, text)
     run = program.start(site.root)
     for k in range(len(text)):
@@ -211,7 +113,7 @@ def check_cutting(checks, program, site):
 
 
 def post(fields, body=b""):
-    return f"POST /a.txt HTTP/1.1\r\nHost: a\r\n{fields}\r\n".encode() + body
+    return request("POST", "/a.txt", fields) + body
 
 
 def status_lines(out):
@@ -272,32 +174,11 @@ def check_interim(checks, program, site):
     checks.equal("the answers behind it", (run.returncode, status_lines(out), error), (0, [NOT_ALLOWED, b"HTTP/1.1 200 OK"], b""))
 
 
-class Kept(io.BytesIO):
-    """Bytes that `http.client` reads answers from as if they came from a socket."""
-
-    def makefile(self, *_):
-        return self
-
-    def close(self):
-        """Several answers are read from the same bytes."""
-
-
-def read_answers(out, methods):
-    """The status, type, length and content of each answer, as Python's own client reads them, and what it left unread."""
-    stream, answers = Kept(out), []
-    for method in methods:
-        answer = http.client.HTTPResponse(stream, method=method)
-        answer.begin()
-        content = answer.read()
-        answers.append((answer.status, answer.getheader("Content-Type"), answer.getheader("Content-Length"), content))
-    return answers, stream.read()
-
-
 def check_http_client(checks, program, site):
     """Python's `http.client` reads each answer on one connection as it is meant, and nothing is left over."""
     kinds = [("GET", "/" + name) for name in site.files] + [("HEAD", "/" + name) for name in site.files]
     kinds += [("GET", "/nope"), ("GET", "/sub"), ("OPTIONS", "*"), ("DELETE", "/"), ("BREW", "/")]
-    text = b"".join(f"{method} {target} HTTP/1.1\r\nHost: a\r\n\r\n".encode() for method, target in kinds)
+    text = b"".join(request(method, target) for method, target in kinds)
     _, out, _ = program.run(site.root, text)
     want = []
     for method, target in kinds:
@@ -331,9 +212,7 @@ class Door:
             except OSError:
                 return
             with link:
-                self.runs.append(
-                    subprocess.Popen([self.program.path, *self.words], stdin=link, stdout=link, **self.program.lowered())
-                )
+                self.runs.append(self.program.start(self.words, stdin=link, stdout=link, stderr=None))
 
     def close(self):
         """The statuses of the runs, once each has ended."""
@@ -358,8 +237,7 @@ def check_sockets(checks, program, site):
 
 def check_curl(checks, program, site):
     """curl gets a file, follows the redirection of a folder and waits for leave to send a body."""
-    if not shutil.which("curl"):
-        raise NotRun("curl is missing")
+    curl = tool("curl")
     door = Door(program, site.root)
     base = f"http://127.0.0.1:{door.port}"
     for what, words, want in (
@@ -370,7 +248,7 @@ def check_curl(checks, program, site):
     ):
         url = base + words.pop()
         done = subprocess.run(
-            ["curl", "-s", "--noproxy", "*", "-m", "30", "-w", "%{http_code}", *words, url], stdout=subprocess.PIPE, timeout=60
+            [curl, "-s", "--noproxy", "*", "-m", "30", "-w", "%{http_code}", *words, url], stdout=subprocess.PIPE, timeout=60
         )
         checks.equal(f"curl: {what}", (done.returncode, done.stdout), (0, want))
     checks.equal("curl: the statuses of the runs", set(door.close()), {0})
@@ -380,15 +258,13 @@ def check_odd_entries(checks, program, site):
     """Links are followed, to a file and no further than they lead; what is no file is 404 at once."""
     top = site.folder / "odd"
     top.mkdir(mode=0o755)
-    (top / "plain.txt").write_bytes(b"plain\n")
-    (top / "plain.txt").chmod(0o644)
+    lay(top / "plain.txt", b"plain\n")
     (top / "to_file.txt").symlink_to("plain.txt")
     (top / "to_nowhere.txt").symlink_to("missing.txt")
     (top / "circle.txt").symlink_to("round.txt")
     (top / "round.txt").symlink_to("circle.txt")
     (top / "folder.txt").mkdir(mode=0o755)
-    (top / "größe ß.txt").write_bytes("süß\n".encode())
-    (top / "größe ß.txt").chmod(0o644)
+    lay(top / "größe ß.txt", "süß\n".encode())
     os.mkfifo(top / "pipe.txt")
     (top / "pipe.txt").chmod(0o644)
     found, absent = b"HTTP/1.1 200 OK", b"HTTP/1.1 404 Not Found"
@@ -407,13 +283,6 @@ def check_odd_entries(checks, program, site):
         checks.equal(what + ", at once", time.monotonic() - began < 10, True)
 
 
-def pattern(start, size):
-    """Bytes of a file whose byte k is k mod 251."""
-    cycle = bytes(range(251))
-    shift = start % 251
-    return (cycle[shift:] + cycle * (size // 251 + 1))[:size]
-
-
 def read_head(stream):
     """The head of an answer, from a pipe."""
     head = b""
@@ -427,9 +296,8 @@ def read_head(stream):
 
 def check_shrinking(checks, program, site):
     """A file that shrinks while it is served ends the connection as a fault of the folder, and no wrong byte is sent."""
-    path, size, left = site.top / "shrinks.bin", 64 << 20, 1 << 20
-    path.write_bytes(pattern(0, size))
-    path.chmod(0o644)
+    size, left = 64 << 20, 1 << 20
+    path = site.add("shrinks.bin", pattern(0, size))
     run = program.start(site.root)
     run.stdin.write(get("/shrinks.bin") + get("/"))
     run.stdin.flush()
@@ -447,20 +315,10 @@ def check_shrinking(checks, program, site):
     checks.equal("its end", (run.returncode, error), (5, b"file fault\n"))
 
 
-def peak_memory(process):
-    """The most memory that a running process has held, in KiB."""
-    text = Path(f"/proc/{process.pid}/status").read_text()
-    return int(re.search(r"VmHWM:\s+(\d+) kB", text).group(1))
-
-
 def check_large_file(checks, program, site):
     """A file of 3 GiB is served by a process that never holds 16 MiB."""
-    path, size, piece = site.top / "large.bin", 3 << 30, 1 << 20
-    with open(path, "wb") as file:
-        file.truncate(size)
-        file.seek(size - 5)
-        file.write(b"hello")
-    path.chmod(0o644)
+    size, piece = 3 << 30, 1 << 20
+    path = site.add_large("large.bin", size, b"hello")
     run = program.start(site.root)
     run.stdin.write(get("/large.bin"))
     run.stdin.flush()
@@ -481,36 +339,5 @@ def check_large_file(checks, program, site):
     checks.equal(f"memory for 3 GiB, {memory} KiB", memory < 16 * 1024, True)
 
 
-CHECKS = {
-    name.removeprefix("check_"): check for name, check in list(globals().items()) if name.startswith("check_")
-}
-
-
-def main(words):
-    loud = "-v" in words
-    built, *names = [word for word in words if word != "-v"]
-    unknown = [name for name in names if name not in CHECKS]
-    if unknown:
-        print(f"end to end: no check is named {unknown[0]}; there are {', '.join(CHECKS)}")
-        return 2
-    checks = Checks()
-    with tempfile.TemporaryDirectory() as folder:
-        os.chmod(folder, 0o755)
-        program, site = Program(built, folder), Site(folder)
-        for name in names or CHECKS:
-            try:
-                CHECKS[name](checks, program, site)
-            except NotRun as reason:
-                checks.not_run.append(f"{name} ({reason})")
-            except subprocess.TimeoutExpired:
-                checks.equal(f"{name}: every run ends", False, True)
-            if loud:
-                print(name)
-    print(f"{checks.passed} passed, {checks.failed} failed")
-    if checks.not_run:
-        print(f"end to end: NOT RUN: {', '.join(checks.not_run)}")
-    return 1 if checks.failed else 0
-
-
 if __name__ == "__main__":
-    sys.exit(main(sys.argv[1:]))
+    sys.exit(main("connection", checks_in(globals()), sys.argv[1:]))

@@ -5,11 +5,9 @@
 The sums that are wanted are worked out here, from the table of the load alone.
 """
 import os
-import subprocess
 import sys
-import tempfile
 
-from connection import USAGE, Checks, Program
+from checks import USAGE, checks_in, main
 
 # Bytes of the answer to each kind of request. The thousandth answer of a connection closes it, with 19 bytes more.
 ANSWERS = (140, 1141, 141, 40141, 104, 133, 140, 141)
@@ -24,7 +22,7 @@ def sums(seed, connections, requests):
     return f"connections {connections}\nrequests {len(kinds)}\nbytes {total}\n".encode()
 
 
-def check_any_number_of_dispatchers(checks, program):
+def check_any_number_of_dispatchers(checks, program, _site):
     """The same load adds up to the same sums, whatever number of dispatchers serves it."""
     want = b"connections 200\nrequests 4000\nbytes 21040500\n"
     checks.equal("the sums as worked out here", sums(7, 200, 20), want)
@@ -33,21 +31,21 @@ def check_any_number_of_dispatchers(checks, program):
         checks.equal(f"drive 7 200 20 {dispatchers}", got, (0, want, ""))
 
 
-def check_loads(checks, program):
+def check_loads(checks, program, _site):
     """Loads of other sizes: the smallest, one of many links, and one whose connections are closed by their last answer."""
     for words in ((0, 1, 1, 1), (3, 1, 8, 2), (7, 4000, 5, 4), (5, 4000, 1, 3), (0, 1, 1000, 2), (9, 20, 1000, 4), (4294967295, 50, 7, 2)):
         got = program.run(["drive", *map(str, words)], timeout=120)
         checks.equal(f"drive {words}", got, (0, sums(*words[:3]), ""))
 
 
-def check_runs_alike(checks, program):
+def check_runs_alike(checks, program, _site):
     """Threads may meet in any order: many runs of one load, more dispatchers than processors, print one thing."""
     want = (0, sums(11, 60, 6), "")
     for k in range(20):
         checks.equal(f"run {k}", program.run(["drive", "11", "60", "6", "8"], timeout=120), want)
 
 
-def check_words(checks, program):
+def check_words(checks, program, _site):
     """Numbers in other spellings of the same value are taken, and each word out of its range is refused."""
     got = program.run(["drive", "0000000007", "010", "003", "02"])
     checks.equal("leading zeros", got, (0, sums(7, 10, 3), ""))
@@ -75,19 +73,14 @@ def check_words(checks, program):
         checks.equal(what, program.run(words), (2, b"", USAGE + "\n"))
 
 
-def check_output_faults(checks, program):
+def check_output_faults(checks, program, _site):
     """Where the output fails the status says so, and nothing is written beside it."""
-    reader, writer = os.pipe()
-    os.close(reader)
-    status, _, error = program.run(["drive", "7", "10", "2", "2"], stdout=writer)
-    os.close(writer)
-    checks.equal("a closed standard output", (status, error), (11, ""))
-    with open("/dev/full", "wb") as full:
-        status, _, error = program.run(["drive", "7", "10", "2", "2"], stdout=full)
-    checks.equal("a full standard output", (status, error), (11, ""))
+    words = ["drive", "7", "10", "2", "2"]
+    checks.equal("a closed standard output", program.run_closed(words), (11, ""))
+    checks.equal("a full standard output", program.run_full(words), (11, ""))
 
 
-def check_reads_nothing(checks, program):
+def check_reads_nothing(checks, program, _site):
     """The load comes from its numbers: standard input is not read."""
     reader, writer = os.pipe()
     got = program.run(["drive", "7", "10", "2", "2"], stdin=reader)
@@ -98,32 +91,5 @@ def check_reads_nothing(checks, program):
     checks.equal("an input that never comes", (got, left), ((0, sums(7, 10, 2), ""), b"x"))
 
 
-CHECKS = {
-    name.removeprefix("check_"): check for name, check in list(globals().items()) if name.startswith("check_")
-}
-
-
-def main(words):
-    loud = "-v" in words
-    built, *names = [word for word in words if word != "-v"]
-    unknown = [name for name in names if name not in CHECKS]
-    if unknown:
-        print(f"end to end: no check of drive is named {unknown[0]}; there are {', '.join(CHECKS)}")
-        return 2
-    checks = Checks()
-    with tempfile.TemporaryDirectory() as folder:
-        os.chmod(folder, 0o755)
-        program = Program(built, folder)
-        for name in names or CHECKS:
-            try:
-                CHECKS[name](checks, program)
-            except subprocess.TimeoutExpired:
-                checks.equal(f"{name}: every run ends", False, True)
-            if loud:
-                print(name)
-    print(f"drive: {checks.passed} passed, {checks.failed} failed")
-    return 1 if checks.failed else 0
-
-
 if __name__ == "__main__":
-    sys.exit(main(sys.argv[1:]))
+    sys.exit(main("drive", checks_in(globals()), sys.argv[1:]))

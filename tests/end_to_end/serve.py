@@ -18,14 +18,26 @@ import ssl
 import struct
 import subprocess
 import sys
-import tempfile
 import threading
 import time
 from pathlib import Path
 
-from connection import SITE, TYPES, USAGE, Checks, NotRun, Program, Site, get, pattern, read_answers
+from checks import (
+    EXAMPLES,
+    TYPES,
+    USAGE,
+    NotRun,
+    checks_in,
+    get,
+    main,
+    pattern,
+    peak_memory,
+    read_answers,
+    request,
+    tool,
+)
 
-OPERATIONS = Path(__file__).resolve().parent.parent.parent / "examples" / "operations"
+OPERATIONS = EXAMPLES / "operations"
 HERE = "127.0.0.1"
 # An address of a documentation net, that no machine has.
 ELSEWHERE = "203.0.113.1"
@@ -103,7 +115,7 @@ class Stream:
 
     def ask(self, target, method="GET", more=""):
         """One request and its answer."""
-        self.send(f"{method} {target} HTTP/1.1\r\nHost: a\r\n{more}\r\n".encode())
+        self.send(request(method, target, more))
         return self.answer(method)
 
 
@@ -206,14 +218,6 @@ class Beside:
         checks.equal(f"{what}: it waits {slowest} seconds at most", max(self.seconds, default=0) < slowest, True)
 
 
-def tool(name):
-    """The tool's path, or the check isn't run."""
-    path = shutil.which(name)
-    if path is None:
-        raise NotRun(f"{name} is missing")
-    return path
-
-
 def begun(words, **more):
     """A client's run that has begun, with one pipe for all that it says."""
     pipes = {"stdin": subprocess.DEVNULL, "stdout": subprocess.PIPE, "stderr": subprocess.STDOUT}
@@ -270,14 +274,8 @@ def check_statuses(checks, program, site):
         ):
             checks.equal(what, program.run(["serve", str(root), address, at, *rest]), want)
     words = ["serve", str(site.top), HERE, str(free_port()), "2", "10", "30"]
-    with open("/dev/full", "wb") as full:
-        status, _, error = program.run(words, stdout=full)
-    checks.equal("a full standard output", (status, error), (11, ""))
-    reader, writer = os.pipe()
-    os.close(reader)
-    status, _, error = program.run(words, stdout=writer)
-    os.close(writer)
-    checks.equal("a closed standard output", (status, error), (11, ""))
+    checks.equal("a full standard output", program.run_full(words), (11, ""))
+    checks.equal("a closed standard output", program.run_closed(words), (11, ""))
     with Server(program, site.top, 3) as server:
         server.finish(checks, "a port that can be had again")
         words[3] = str(server.port)
@@ -315,7 +313,7 @@ def check_pipelined(checks, program, site):
     """Requests that are sent in one piece are answered in order, up to the thousandth, which closes."""
     kinds = [("GET", "/" + name) for name in site.files] + [("HEAD", "/big.bin"), ("GET", "/nope"), ("GET", "/sub")]
     kinds = [kinds[k % len(kinds)] for k in range(REQUESTS)]
-    text = b"".join(f"{method} {target} HTTP/1.1\r\nHost: a\r\n\r\n".encode() for method, target in kinds)
+    text = b"".join(request(method, target) for method, target in kinds)
     with Server(program, site.top, 20) as server:
         with connect(server.port) as link:
             sender = threading.Thread(target=link.sendall, args=(text + get("/"),), daemon=True)
@@ -364,7 +362,7 @@ def check_bodies(checks, program, site):
         ):
             for ends in (False, True):
                 with connect(server.port) as link:
-                    link.sendall(f"POST /a.txt HTTP/1.1\r\nHost: a\r\n{head}\r\n".encode() + body)
+                    link.sendall(request("POST", "/a.txt", head) + body)
                     if ends:
                         link.shutdown(socket.SHUT_WR)
                     out, in_order = read_to_end(link)
@@ -380,10 +378,11 @@ def check_bodies(checks, program, site):
 
 def check_endless_body(checks, program, site):
     """Who goes on sending after a refusal is cut off, and nobody else waits for it."""
+    endless = request("POST", "/a.txt", "Content-Length: 2000000000\r\n")
     with Server(program, site.top, 1500, seconds=2, dispatchers=1) as server, Beside(server, "/a.txt", site.files["a.txt"]) as beside:
         began = time.monotonic()
         with connect(server.port) as link:
-            link.sendall(b"POST /a.txt HTTP/1.1\r\nHost: a\r\nContent-Length: 2000000000\r\n\r\n")
+            link.sendall(endless)
             sent, cut = 0, False
             while not cut and time.monotonic() - began < 15:
                 try:
@@ -396,7 +395,7 @@ def check_endless_body(checks, program, site):
         with connect(server.port) as link:
             cut = False
             try:
-                link.sendall(b"POST /a.txt HTTP/1.1\r\nHost: a\r\nContent-Length: 2000000000\r\n\r\n")
+                link.sendall(endless)
                 while time.monotonic() - began < 15:
                     link.send(bytes(1 << 16))
             except OSError:
@@ -410,9 +409,7 @@ def check_endless_body(checks, program, site):
 def check_half_close(checks, program, site):
     """A client that ends its side behind its request is answered whole, and then the connection is over."""
     size = 20 << 20
-    path = site.top / "half.bin"
-    path.write_bytes(pattern(0, size))
-    path.chmod(0o644)
+    path = site.add("half.bin", pattern(0, size))
     with Server(program, site.top, 10) as server:
         for name, content in (("a.txt", site.files["a.txt"]), ("half.bin", pattern(0, size))):
             with connect(server.port) as link:
@@ -439,9 +436,7 @@ def reset(link):
 def check_gone(checks, program, site):
     """Clients that go away before, within and behind an answer cost nobody else anything."""
     size = 64 << 20
-    path = site.top / "gone.bin"
-    path.write_bytes(pattern(0, size))
-    path.chmod(0o644)
+    path = site.add("gone.bin", pattern(0, size))
     with Server(program, site.top, 800, seconds=2) as server:
         with Stream(server.port) as stream:
             stream.ask("/a.txt")
@@ -482,7 +477,7 @@ def check_silent(checks, program, site):
             ("nothing", b""),
             ("half a head", get("/a.txt")[:20]),
             ("a whole request", get("/a.txt")),
-            ("half a body", b"POST / HTTP/1.1\r\nHost: a\r\nContent-Length: 9\r\n\r\n1234"),
+            ("half a body", request("POST", "/", "Content-Length: 9\r\n") + b"1234"),
         ):
             for k in range(3):
                 name = f"{what}, {k}"
@@ -614,10 +609,7 @@ def check_few_descriptors(checks, program, site):
 def check_replaced(checks, program, site):
     """A file that is replaced, taken away or new is seen within SECONDS, also under load."""
     seconds = 1
-    path, new = site.top / "news.txt", site.top / "new.txt"
-    path.write_bytes(b"old\n")
-    path.chmod(0o644)
-
+    path = site.add("news.txt", b"old\n")
     with Server(program, site.top, 50, seconds=seconds) as server:
         for what, change, target, want in (
             ("a file that is there", lambda: None, "/news.txt", (OK, b"old\n")),
@@ -626,8 +618,7 @@ def check_replaced(checks, program, site):
             ("a file that is taken away", path.unlink, "/news.txt", (NOT_FOUND, b"")),
             ("a file that is new", lambda: new.rename(site.top / "later.txt"), "/later.txt", (OK, b"new one\n")),
         ):
-            new.write_bytes(b"new one\n")
-            new.chmod(0o644)
+            new = site.add("new.txt", b"new one\n")
             change()
             began, seen = time.monotonic(), False
             # A connection answers a thousand requests, so a change is waited for on several.
@@ -665,12 +656,7 @@ def check_stopped(checks, program, site):
 def check_large_file(checks, program, site):
     """Large files go to several clients at once, one of them slow, from a server that never holds much of them."""
     size = 256 << 20
-    path = site.top / "large.bin"
-    with open(path, "wb") as file:
-        file.truncate(size)
-        file.seek(size - 5)
-        file.write(b"hello")
-    path.chmod(0o644)
+    path = site.add_large("large.bin", size, b"hello")
     results = []
     with Server(program, site.top, 8, seconds=30) as server:
 
@@ -692,8 +678,7 @@ def check_large_file(checks, program, site):
         for thread in threads:
             thread.join(timeout=90)
         checks.equal("three clients of a large file", results, [(b"HTTP/1.1 200 OK\r\n", size, b"hello")] * 3)
-        text = Path(f"/proc/{server.run.pid}/status").read_text()
-        peak = int(re.search(r"VmHWM:\s+(\d+) kB", text).group(1))
+        peak = peak_memory(server.run)
         checks.equal(f"memory for it, {peak} KiB", peak < 64 * 1024, True)
         server.finish(checks, "a large file")
     path.unlink()
@@ -860,9 +845,7 @@ def check_unit(checks, program, site):
 def check_slowhttptest(checks, program, site):
     """Slow heads, slow bodies, ranges without end and slow readers hold nobody else up."""
     slow = tool("slowhttptest")
-    path = site.top / "slow.bin"
-    path.write_bytes(pattern(0, 1 << 20))
-    path.chmod(0o644)
+    path = site.add("slow.bin", pattern(0, 1 << 20))
     usual = ["-c", 300, "-r", 300, "-l", 5, "-i", 1, "-p", 3, "-v", 1]
     modes = (
         ("heads", ["-H", "-x", 24]),
@@ -894,11 +877,7 @@ def check_chromium(checks, program, site):
     browser = next((path for name in ("chromium", "chromium-browser", "google-chrome") if (path := shutil.which(name))), None)
     if browser is None:
         raise NotRun("chromium is missing")
-    top = site.folder / "shown"
-    if not top.exists():
-        shutil.copytree(SITE, top)
-    for path in [top, *top.rglob("*")]:
-        path.chmod(0o755 if path.is_dir() else 0o644)
+    top = site.examples()
     title = re.search(r"<title>(.*?)</title>", (top / "index.html").read_text()).group(1)
     shot = site.folder / "shot.png"
     usual = "--headless --no-sandbox --disable-gpu --no-first-run --disable-background-networking --virtual-time-budget=3000"
@@ -913,37 +892,5 @@ def check_chromium(checks, program, site):
         server.finish(checks, "a browser")
 
 
-CHECKS = {
-    name.removeprefix("check_"): check for name, check in list(globals().items()) if name.startswith("check_")
-}
-
-
-def main(words):
-    loud = "-v" in words
-    built, *names = [word for word in words if word != "-v"]
-    unknown = [name for name in names if name not in CHECKS]
-    if unknown:
-        print(f"end to end: no check of serve is named {unknown[0]}; there are {', '.join(CHECKS)}")
-        return 2
-    checks = Checks()
-    with tempfile.TemporaryDirectory() as folder:
-        os.chmod(folder, 0o755)
-        program, site = Program(built, folder), Site(folder)
-        for name in names or CHECKS:
-            began = time.monotonic()
-            try:
-                CHECKS[name](checks, program, site)
-            except NotRun as reason:
-                checks.not_run.append(f"{name} ({reason})")
-            except (subprocess.TimeoutExpired, OSError, RuntimeError, http.client.HTTPException) as trouble:
-                checks.equal(f"{name}: it comes to its end", repr(trouble), "no trouble")
-            if loud:
-                print(f"{name}: {time.monotonic() - began:.1f} s", flush=True)
-    print(f"serve: {checks.passed} passed, {checks.failed} failed")
-    if checks.not_run:
-        print(f"end to end: NOT RUN: {', '.join(checks.not_run)}")
-    return 1 if checks.failed else 0
-
-
 if __name__ == "__main__":
-    sys.exit(main(sys.argv[1:]))
+    sys.exit(main("serve", checks_in(globals()), sys.argv[1:]))

@@ -1,4 +1,3 @@
-pub mod ReplyLemmas
 pub mod FolderLemmas
 pub mod BelowLemmas
 pub mod KeptLemmas

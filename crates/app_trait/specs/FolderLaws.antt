@@ -1,30 +1,36 @@
--- Inner: the proofs that the application of a folder answers after two looks, and that each answer is proper. Trusted by their types.
+-- Inner: the proofs that the application of a folder answers after two looks, and that each answer is
+-- proper. Trusted by their types.
 use Rattle.std.specs.Prelude.{◌≡◌, ℕ, Bool, true, false, List, refl}
 use Rattle.std.proofs.Common.{arith}
 use Rattle.warp_response.specs.Statuses.{HasPhrase}
 use Rattle.path_rules.specs.Route.{RouteOf, route_of}
 use Rattle.path_rules.specs.Route as routed
 use Rattle.app_trait.specs.declared.request.Seen.{Seen}
-use Rattle.app_trait.specs.declared.request.Seen.TheVariants.{Nothing, FirstFound, FirstAbsent, SecondFound, SecondAbsent}
+use Rattle.app_trait.specs.declared.request.Seen.TheVariants.{Nothing, FirstFound, FirstAbsent, SecondFound}
+use Rattle.app_trait.specs.declared.request.Seen.TheVariants.{SecondAbsent}
 use Rattle.app_trait.specs.declared.method.Method.{Method}
 use Rattle.app_trait.specs.declared.method.Method.TheVariants.{Get, Head, Options, Refused, Unknown}
 use Rattle.app_trait.specs.Method.{method_of}
 use Rattle.app_trait.specs.Moves.{RequestText, IsAnswer, EndsWithTwo, IsProper, IsProperMove}
-use Rattle.app_trait.specs.FolderMoves.{plain, found_at, moved_from, index_move, path_move, move_by_route, move_by_method, folder_move}
+use Rattle.app_trait.specs.FolderMoves.{plain, found_at, moved_from, index_move, path_move, move_by_route}
+use Rattle.app_trait.specs.FolderMoves.{move_by_method, folder_move}
 
 -- ---- after two looks comes an answer
 
-route_found : (to : RouteOf) (target : List ℕ) (send : Bool) (size mtime : ℕ) → IsAnswer (move_by_route to target send (SecondFound size mtime))
+route_found : (to : RouteOf) (target : List ℕ) (send : Bool) (size mtime : ℕ)
+    → IsAnswer (move_by_route to target send (SecondFound size mtime))
 route_found routed.not_found target send size mtime = tt
 route_found (routed.index path) target send size mtime = tt
 route_found (routed.path path) target send size mtime = tt
 
-route_absent : (to : RouteOf) (target : List ℕ) (send : Bool) → IsAnswer (move_by_route to target send SecondAbsent)
+route_absent : (to : RouteOf) (target : List ℕ) (send : Bool)
+    → IsAnswer (move_by_route to target send SecondAbsent)
 route_absent routed.not_found target send = tt
 route_absent (routed.index path) target send = tt
 route_absent (routed.path path) target send = tt
 
-method_found : (method : Method) (target : List ℕ) (size mtime : ℕ) → IsAnswer (move_by_method method target (SecondFound size mtime))
+method_found : (method : Method) (target : List ℕ) (size mtime : ℕ)
+    → IsAnswer (move_by_method method target (SecondFound size mtime))
 method_found Get target size mtime = route_found (route_of target) target true size mtime
 method_found Head target size mtime = route_found (route_of target) target false size mtime
 method_found Options target size mtime = tt
@@ -48,7 +54,8 @@ folder_ends = record {
 
 -- ---- each answer is proper
 
-plain_proper : (status : ℕ) (allow : Bool) (seen : Seen) → HasPhrase status → (status ≡ 301 → ⊥) → IsProper seen (plain status allow)
+plain_proper : (status : ℕ) (allow : Bool) (seen : Seen) → HasPhrase status → (status ≡ 301 → ⊥)
+    → IsProper seen (plain status allow)
 plain_proper status allow seen phrase other = record {
   phrase = phrase;
   moved = ((λ h. cc), (λ h. absurd (other h)));
@@ -57,7 +64,8 @@ plain_proper status allow seen phrase other = record {
   kind = ((λ h. cc), (λ h. cc));
 }
 
-found_proper : (path : List ℕ) (send : Bool) (size mtime : ℕ) → IsProper (FirstFound size mtime) (found_at path send)
+found_proper : (path : List ℕ) (send : Bool) (size mtime : ℕ)
+    → IsProper (FirstFound size mtime) (found_at path send)
 unfolding HasPhrase
 found_proper path send size mtime = record {
   phrase = refl;
@@ -88,19 +96,22 @@ index_proper path send FirstAbsent = missing_proper FirstAbsent
 index_proper path send (SecondFound size mtime) = missing_proper (SecondFound size mtime)
 index_proper path send SecondAbsent = missing_proper SecondAbsent
 
-path_proper : (path target : List ℕ) (send : Bool) (seen : Seen) → IsProperMove seen (path_move path target send seen)
+path_proper : (path target : List ℕ) (send : Bool) (seen : Seen)
+    → IsProperMove seen (path_move path target send seen)
 path_proper path target send Nothing = tt
 path_proper path target send (FirstFound size mtime) = found_proper path send size mtime
 path_proper path target send FirstAbsent = tt
 path_proper path target send (SecondFound size mtime) = moved_proper target (SecondFound size mtime)
 path_proper path target send SecondAbsent = missing_proper SecondAbsent
 
-route_proper : (to : RouteOf) (target : List ℕ) (send : Bool) (seen : Seen) → IsProperMove seen (move_by_route to target send seen)
+route_proper : (to : RouteOf) (target : List ℕ) (send : Bool) (seen : Seen)
+    → IsProperMove seen (move_by_route to target send seen)
 route_proper routed.not_found target send seen = missing_proper seen
 route_proper (routed.index path) target send seen = index_proper path send seen
 route_proper (routed.path path) target send seen = path_proper path target send seen
 
-method_proper : (method : Method) (target : List ℕ) (seen : Seen) → IsProperMove seen (move_by_method method target seen)
+method_proper : (method : Method) (target : List ℕ) (seen : Seen)
+    → IsProperMove seen (move_by_method method target seen)
 unfolding HasPhrase
 method_proper Get target seen = route_proper (route_of target) target true seen
 method_proper Head target seen = route_proper (route_of target) target false seen

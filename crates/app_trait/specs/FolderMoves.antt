@@ -4,7 +4,8 @@ use Rattle.path_rules.specs.Route.{RouteOf, route_of}
 use Rattle.path_rules.specs.Route as routed
 use Rattle.path_rules.specs.ContentType.{content_type_of}
 use Rattle.app_trait.specs.declared.request.Seen.{Seen}
-use Rattle.app_trait.specs.declared.request.Seen.TheVariants.{Nothing, FirstFound, FirstAbsent, SecondFound, SecondAbsent}
+use Rattle.app_trait.specs.declared.request.Seen.TheVariants.{Nothing, FirstFound, FirstAbsent, SecondFound}
+use Rattle.app_trait.specs.declared.request.Seen.TheVariants.{SecondAbsent}
 use Rattle.app_trait.specs.declared.method.Method.{Method}
 use Rattle.app_trait.specs.declared.method.Method.TheVariants.{Get, Head, Options, Refused, Unknown}
 use Rattle.app_trait.specs.Method.{method_of}
@@ -17,11 +18,18 @@ plain status allow = record { status = status; content = empty; kind = None; pla
 
 -- 200 with the file that was found at a path
 abbrev pub found_at : List ℕ → Bool → Outline
-found_at path send = record { status = 200; content = found send; kind = Some (content_type_of path); place = None; allow = false }
+found_at path send = record {
+  status = 200;
+  content = found send;
+  kind = Some (content_type_of path);
+  place = None;
+  allow = false;
+}
 
 -- 301 to the place of the folder
 abbrev pub moved_from : List ℕ → Outline
-moved_from target = record { status = 301; content = empty; kind = None; place = Some (moved_place target); allow = false }
+moved_from target =
+    record { status = 301; content = empty; kind = None; place = Some (moved_place target); allow = false }
 
 -- at an index one look decides
 abbrev pub index_move : List ℕ → Bool → Seen → AppMove

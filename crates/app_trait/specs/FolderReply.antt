@@ -1,4 +1,5 @@
--- To be believed: what a folder answers to a request, a table over the method, the route of the target and what the folder has there.
+-- To be believed: what a folder answers to a request, a table over the method, the route of the target
+-- and what the folder has there.
 use Rattle.std.specs.Prelude.{◌≡◌, ℕ, Bool, true, false, List, ◌++◌, Option, Some, None, codes}
 use Rattle.outside.specs.Folder.{Folder, Content, file_at}
 use Rattle.warp_response.specs.Reply.{Reply, empty, file, location, refusal_reply}
@@ -43,7 +44,8 @@ moved_place target = location target (record { raw = raw_path_of target; query =
 
 -- 301 to the place of the folder
 abbrev pub moved : List ℕ → Reply
-moved target = record { status = 301; content = empty; kind = None; place = Some (moved_place target); allow = false }
+moved target =
+    record { status = 301; content = empty; kind = None; place = Some (moved_place target); allow = false }
 
 -- the path of the file that stands for a folder
 abbrev pub index_of : List ℕ → List ℕ
@@ -68,7 +70,8 @@ reply_at_path folder (Some content) path target send = file_reply path content s
 abbrev pub reply_by_route : Folder → RouteOf → List ℕ → Bool → Reply
 reply_by_route folder routed.not_found target send = missing
 reply_by_route folder (routed.index path) target send = reply_at_index (file_at folder path) path send
-reply_by_route folder (routed.path path) target send = reply_at_path folder (file_at folder path) path target send
+reply_by_route folder (routed.path path) target send =
+    reply_at_path folder (file_at folder path) path target send
 
 -- a request goes by its method
 abbrev pub reply_by_method : Folder → Method → List ℕ → Reply

@@ -8,3 +8,4 @@ pub mod FolderMoves
 pub mod Below
 pub mod FolderLaws
 pub mod Laws
+pub mod ReplyLaws

@@ -7,7 +7,8 @@ use Rattle.app_trait.specs.declared.method.Method.TheVariants.{Get, Head, Option
 
 -- the methods that are known and not served
 abbrev pub refused_methods : List (List ℕ)
-refused_methods = codes "POST" ∷ codes "PUT" ∷ codes "DELETE" ∷ codes "PATCH" ∷ codes "TRACE" ∷ codes "CONNECT" ∷ []
+refused_methods =
+    codes "POST" ∷ codes "PUT" ∷ codes "DELETE" ∷ codes "PATCH" ∷ codes "TRACE" ∷ codes "CONNECT" ∷ []
 
 -- a method is told by its bytes, with regard to case
 abbrev pub method_of : List ℕ → Method

@@ -4,7 +4,8 @@ use Rattle.warp_response.specs.declared.response.Kind.{Kind}
 use Rattle.warp_response.specs.Statuses.{HasPhrase}
 use Rattle.app_trait.specs.declared.request.Request.{Request}
 use Rattle.app_trait.specs.declared.request.Seen.{Seen}
-use Rattle.app_trait.specs.declared.request.Seen.TheVariants.{Nothing, FirstFound, FirstAbsent, SecondFound, SecondAbsent}
+use Rattle.app_trait.specs.declared.request.Seen.TheVariants.{Nothing, FirstFound, FirstAbsent, SecondFound}
+use Rattle.app_trait.specs.declared.request.Seen.TheVariants.{SecondAbsent}
 use Rattle.app_trait.specs.Seen.{HasFound, next_seen}
 
 -- a request, as an application sees it
@@ -17,7 +18,8 @@ pub record RequestText : Type 0 where
 abbrev pub text_of : Request → RequestText
 text_of request = record { method = request.method.now; target = request.target.now; minor = request.minor }
 
--- what an answer shows as its content: none, one without bytes, or the file that the last look found, sent or not
+-- what an answer shows as its content: none, one without bytes, or the file that the
+-- last look found, sent or not
 pub data ShownContent : Type 0 where
   none : ShownContent
   empty : ShownContent
@@ -29,7 +31,8 @@ is_found none = false
 is_found empty = false
 is_found (found send) = true
 
--- a reply whose file, where it has one, is the file that the last look found; its place is the bytes of Location
+-- a reply whose file, where it has one, is the file that the last look found; its place
+-- is the bytes of Location
 pub record Outline : Type 0 where
   pub status : ℕ
   pub content : ShownContent
@@ -56,7 +59,8 @@ pub record EndsWithTwo (moves : Moves) : Type 0 where
   pub found : (request : RequestText) (size mtime : ℕ) → IsAnswer (moves request (SecondFound size mtime))
   pub absent : (request : RequestText) → IsAnswer (moves request SecondAbsent)
 
--- each answer has a status with a phrase, a place exactly at 301, a file only at 200 and found, and a kind exactly with a file
+-- each answer has a status with a phrase, a place exactly at 301, a file only at 200 and found,
+-- and a kind exactly with a file
 pub record IsProper (seen : Seen) (outline : Outline) : Type 0 where
   pub phrase : HasPhrase outline.status
   pub moved : IsSome outline.place ↔ (outline.status ≡ 301)

@@ -4,9 +4,11 @@ use Rattle.outside.specs.Folder.{Folder, Content, file_at}
 use Rattle.warp_response.specs.Reply.{Reply, ReplyContent, refusal_reply}
 use Rattle.warp_response.specs.Reply as told
 use Rattle.app_trait.specs.declared.request.Seen.{Seen}
-use Rattle.app_trait.specs.declared.request.Seen.TheVariants.{Nothing, FirstFound, FirstAbsent, SecondFound, SecondAbsent}
+use Rattle.app_trait.specs.declared.request.Seen.TheVariants.{Nothing, FirstFound, FirstAbsent, SecondFound}
+use Rattle.app_trait.specs.declared.request.Seen.TheVariants.{SecondAbsent}
 use Rattle.app_trait.specs.Seen.{first_seen, second_seen}
-use Rattle.app_trait.specs.Moves.{RequestText, ShownContent, none, empty, found, Outline, AppMove, look_at, answer, Moves}
+use Rattle.app_trait.specs.Moves.{RequestText, ShownContent, none, empty, found, Outline, AppMove, look_at}
+use Rattle.app_trait.specs.Moves.{answer, Moves}
 
 -- the size and the time of a file, where there is one
 abbrev pub facts_of : Option Content → Option (ℕ × ℕ)
@@ -15,9 +17,11 @@ facts_of look = option_map (λ content. (length content.0, content.1)) look
 -- what was seen is what the last look found
 abbrev pub SawFound : Seen → Option Content → Type 0
 SawFound Nothing look = look ≡ None
-SawFound (FirstFound size mtime) look = (content : Content) × (look ≡ Some content) × (size ≡ length content.0) × (mtime ≡ content.1)
+SawFound (FirstFound size mtime) look =
+    (content : Content) × (look ≡ Some content) × (size ≡ length content.0) × (mtime ≡ content.1)
 SawFound FirstAbsent look = look ≡ None
-SawFound (SecondFound size mtime) look = (content : Content) × (look ≡ Some content) × (size ≡ length content.0) × (mtime ≡ content.1)
+SawFound (SecondFound size mtime) look =
+    (content : Content) × (look ≡ Some content) × (size ≡ length content.0) × (mtime ≡ content.1)
 SawFound SecondAbsent look = look ≡ None
 
 -- the content of a reply that shows this, where the last look found this file
@@ -51,7 +55,8 @@ after_one moves folder request (answer outline) look = filled outline look
 -- the reply before any look
 unfoldable pub after_none : Moves → Folder → RequestText → AppMove → Reply
 after_none moves folder request (look_at path) =
-    let file = file_at folder path in after_one moves folder request (moves request (first_seen (facts_of file))) file
+    let file = file_at folder path in
+    after_one moves folder request (moves request (first_seen (facts_of file))) file
 after_none moves folder request (answer outline) = filled outline None
 
 -- the reply to a request over a folder
@@ -61,7 +66,10 @@ reply_to moves folder request = after_none moves folder request (moves request N
 -- the reply that is still to come, where this has been seen and the last look found this
 unfoldable pub reply_after : Moves → Folder → RequestText → Seen → Option Content → Reply
 reply_after moves folder request Nothing look = reply_to moves folder request
-reply_after moves folder request (FirstFound size mtime) look = after_one moves folder request (moves request (FirstFound size mtime)) look
-reply_after moves folder request FirstAbsent look = after_one moves folder request (moves request FirstAbsent) look
-reply_after moves folder request (SecondFound size mtime) look = after_two (moves request (SecondFound size mtime)) look
+reply_after moves folder request (FirstFound size mtime) look =
+    after_one moves folder request (moves request (FirstFound size mtime)) look
+reply_after moves folder request FirstAbsent look =
+    after_one moves folder request (moves request FirstAbsent) look
+reply_after moves folder request (SecondFound size mtime) look =
+    after_two (moves request (SecondFound size mtime)) look
 reply_after moves folder request SecondAbsent look = after_two (moves request SecondAbsent) look

@@ -1,7 +1,8 @@
 -- To be believed: what the looks for one request have found so far.
 use Rattle.std.specs.Prelude.{ℕ, Option, Some, None}
 use Rattle.app_trait.specs.declared.request.Seen.{Seen}
-use Rattle.app_trait.specs.declared.request.Seen.TheVariants.{Nothing, FirstFound, FirstAbsent, SecondFound, SecondAbsent}
+use Rattle.app_trait.specs.declared.request.Seen.TheVariants.{Nothing, FirstFound, FirstAbsent, SecondFound}
+use Rattle.app_trait.specs.declared.request.Seen.TheVariants.{SecondAbsent}
 
 -- the last look found a file
 abbrev pub HasFound : Seen → Type 0

@@ -6,7 +6,8 @@ use Rattle.warp_response.specs.declared.response.Content.TheVariants as kept
 use Rattle.warp_response.specs.declared.response.Response.{Response}
 use Rattle.warp_response.specs.Reply.{location, IsPlaceOf}
 use Rattle.app_trait.specs.declared.request.Seen.{Seen}
-use Rattle.app_trait.specs.declared.request.Seen.TheVariants.{Nothing, FirstFound, FirstAbsent, SecondFound, SecondAbsent}
+use Rattle.app_trait.specs.declared.request.Seen.TheVariants.{Nothing, FirstFound, FirstAbsent, SecondFound}
+use Rattle.app_trait.specs.declared.request.Seen.TheVariants.{SecondAbsent}
 use Rattle.app_trait.specs.declared.app.Move.{Move}
 use Rattle.app_trait.specs.declared.app.Move.TheVariants.{Look, Answer}
 use Rattle.app_trait.specs.Moves.{ShownContent, none, empty, found, Outline, AppMove, look_at, answer}

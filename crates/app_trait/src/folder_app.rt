@@ -1,6 +1,6 @@
-// The application that serves the files of a folder: it goes by the method, then by what the target stands for, then by
-// what its looks have found. It keeps nothing between calls: the path of a look that was made is still there, and the
-// target is routed again only where a first look found no file.
+//! The application that serves the files of a folder: it goes by the method, then by what the target stands
+//! for, then by what its looks have found. It keeps nothing between calls: the path of a look that was made
+//! is still there, and the target is routed again only where a first look found no file.
 ghost use Rattle.std.specs.Prelude.{◌≡◌, ℕ, List, []};
 ghost use Rattle.path_rules.specs.Route.{route_of};
 ghost use Rattle.app_trait.specs.declared.request.Seen.{Seen as Sight};
@@ -50,9 +50,9 @@ impl FolderApp {
     ghost use Rattle.app_trait.specs.Below.{StaysBelow};
     ghost use Rattle.app_trait.specs.FolderReply.{folder_reply, AsksHead};
 
-    /// A law, and no work: whatever a folder has, the looks and the answer of its application come to the reply of its
-    /// table; HEAD gets the head that GET gets, with no bytes after it (RFC 9110, section 9.3.2); and whatever a request
-    /// says, what is looked for lies below the folder.
+    /// A law, and no work: whatever a folder has, the looks and the answer of its application come to the
+    /// reply of its table; HEAD gets the head that GET gets, with no bytes after it (RFC 9110, section
+    /// 9.3.2); and whatever a request says, what is looked for lies below the folder.
     pub fn serves(&self)
         ensures table { (folder : Folder) (request : RequestText)
             → reply_to (⟦<FolderApp as App>⟧.moves self.now) folder request ≡ folder_reply folder request }
@@ -68,7 +68,8 @@ impl FolderApp {
 /// The answer to GET and HEAD, or the look that it needs.
 fn file_move(target: &[u8], send: bool, seen: Seen, path: &mut PathBuf8) -> Move
     requires kept { PathKept (move_by_route (route_of target.now) target.now send) seen path.old }
-    ensures is { move_shown target.now result path.new ≡ move_by_route (route_of target.now) target.now send seen }
+    ensures is { move_shown target.now result path.new
+        ≡ move_by_route (route_of target.now) target.now send seen }
     ensures fits { FitsMove target.now seen result }
 {
     match seen {
@@ -82,7 +83,8 @@ fn file_move(target: &[u8], send: bool, seen: Seen, path: &mut PathBuf8) -> Move
 
 /// The first look is for the path, where the target has one.
 fn first_look(target: &[u8], send: bool, path: &mut PathBuf8) -> Move
-    ensures is { move_shown target.now result path.new ≡ move_by_route (route_of target.now) target.now send Sight.Nothing }
+    ensures is { move_shown target.now result path.new
+        ≡ move_by_route (route_of target.now) target.now send Sight.Nothing }
     ensures fits { FitsMove target.now Sight.Nothing result }
 {
     match route(target, path) {
@@ -93,7 +95,8 @@ fn first_look(target: &[u8], send: bool, path: &mut PathBuf8) -> Move
 
 /// Where there is no file at a path, a second look is for the index below it. At an index one look decides.
 fn second_look(target: &[u8], send: bool, path: &mut PathBuf8) -> Move
-    ensures is { move_shown target.now result path.new ≡ move_by_route (route_of target.now) target.now send Sight.FirstAbsent }
+    ensures is { move_shown target.now result path.new
+        ≡ move_by_route (route_of target.now) target.now send Sight.FirstAbsent }
     ensures fits { FitsMove target.now Sight.FirstAbsent result }
 {
     match route(target, path) {

@@ -1,4 +1,4 @@
-// How the folder takes a method.
+//! How the folder takes a method.
 ghost use Rattle.std.specs.Prelude.{◌≡◌};
 ghost use Rattle.std.specs.List.{list_any};
 ghost use Rattle.std.specs.Str.{bytes_eq};

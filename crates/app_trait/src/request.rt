@@ -1,4 +1,4 @@
-// What an application is told: the request, and what its looks for files have found so far.
+//! What an application is told: the request, and what its looks for files have found so far.
 ghost use Rattle.std.specs.Prelude.{◌≡◌, Some, None};
 
 /// A request, as an application sees it.

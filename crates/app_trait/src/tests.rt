@@ -1,4 +1,4 @@
-// A small folder, asked by each method and by each kind of target.
+//! A small folder, asked by each method and by each kind of target.
 ghost use Rattle.std.specs.Prelude.{◌≡◌, option_map};
 ghost use Rattle.app_trait.specs.FolderMoves.{folder_move};
 ghost use Rattle.app_trait.specs.Moves.{PathKept, text_of};

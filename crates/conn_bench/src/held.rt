@@ -1,4 +1,4 @@
-// The connections that are held.
+//! The connections that are held.
 ghost use Rattle.std.specs.Prelude.{◌≡◌, ◌<◌, length};
 
 use crate::order::{Order, Past};
@@ -7,7 +7,8 @@ use conn_loop::{Conn, Scratch};
 use outside::{Clock, Files, PieceLink, ReadEvent};
 use std::alloc::{AllocError, Global};
 
-/// A request whose target has a folder and then a name that no file has, so that its path is begun and it is answered by 404.
+/// A request whose target has a folder and then a name that no file has, so that its path is
+/// begun and it is answered by 404.
 const REQUEST: &[u8] =
     b"GET /a/.b HTTP/1.1\r\nHost: 127.0.0.1:8080\r\nConnection: keep-alive\r\nAccept: */*\r\n\r\n";
 

@@ -1,8 +1,8 @@
-//! The program `conn_bench`: holds connections until a byte comes on standard input or that is over, so that whoever runs
-//! it can see how much memory they have.
+//! The program `conn_bench`: holds connections until a byte comes on standard input or that is over, so that
+//! whoever runs it can see how much memory they have.
 //!
-//! Its words are `new`, for connections that have read nothing, or `asked`, for ones that have answered one request and
-//! wait for the next, and how many there are to be. It measures nothing itself.
+//! Its words are `new`, for connections that have read nothing, or `asked`, for ones that have answered one
+//! request and wait for the next, and how many there are to be. It measures nothing itself.
 #![tactic(auto)]
 
 mod held;
@@ -14,6 +14,7 @@ use outside::{OsClock, OsFiles};
 use std::env;
 use std::io::Read;
 use std::process::ExitCode;
+use std::sync::Arc;
 
 /// The command line was none of this program's.
 const USAGE: u8 = 2;
@@ -26,8 +27,15 @@ fn main(rt: HostRuntime) -> ExitCode {
         let _ = eprintln!(rt; "words: new|asked CONNECTIONS");
         return ExitCode::from(USAGE);
     };
-    let mut files = OsFiles::new(rt.alloc(), &rt);
-    let Ok(held) = hold(rt.alloc(), &order, &mut files, &mut OsClock::new(&rt)) else {
+    let Ok(rt) = Arc::new(rt.alloc(), rt) else {
+        return ExitCode::from(FAILED);
+    };
+    let (Ok(for_files), Ok(for_clock)) = (Arc::try_clone(&rt), Arc::try_clone(&rt)) else {
+        return ExitCode::from(FAILED);
+    };
+    let mut files = OsFiles::new(rt.alloc(), for_files);
+    let mut clock = OsClock::new(for_clock);
+    let Ok(held) = hold(rt.alloc(), &order, &mut files, &mut clock) else {
         return ExitCode::from(FAILED);
     };
     if println!(rt; "{} connections", held.len()).is_err() {
@@ -40,7 +48,8 @@ fn main(rt: HostRuntime) -> ExitCode {
     }
 }
 
-/// The words of the command line without the program's name; none where they aren't text, or don't fit into memory.
+/// The words of the command line without the program's name; none where they aren't
+/// text, or don't fit into memory.
 fn words_of(rt: &HostRuntime) -> Vec<String> {
     let mut words = Vec::new(rt.alloc());
     let Ok(args) = env::args(rt) else {

@@ -1,4 +1,4 @@
-// What the words of the command line ask for.
+//! What the words of the command line ask for.
 
 /// The most connections.
 const MOST: usize = 1_000_000;

@@ -4,7 +4,7 @@ use Rattle.warp_request.specs.Laws.{TellsOf}
 use Rattle.warp_request.specs.Lines.{skip_empty}
 use Rattle.warp_request.specs.Next.{next_of}
 use Rattle.warp_request.specs.Verdict.{Verdict, more, asked, Asked}
-use Rattle.warp_request.proofs.NextLaws.{next_tells}
+use Rattle.warp_request.specs.NextLaws.{next_tells}
 
 pub tells_of : (s : List ℕ) (v : Verdict) → next_of s ≡ v → TellsOf s v
 tells_of s v is = subst (λ (w : Verdict). TellsOf s w) is (next_tells s)

@@ -6,8 +6,8 @@ pub mod Moves
 pub mod Phases
 pub mod Replying
 pub mod Stages
-pub mod Standing
+pub mod ConnState
 pub mod Steps
 pub mod Supplies
-pub mod Turns
+pub mod FirstRequest
 pub mod Writing

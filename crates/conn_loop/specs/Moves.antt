@@ -1,5 +1,6 @@
 -- Inner: what the steps of a connection do to what it holds and to what is told of its link.
-use Rattle.std.specs.Prelude.{◌≡◌, ℕ, ◌+◌, ◌^◌, ◌<◌, ◌≤◌, true, false, List, [], ◌∷◌, ◌++◌, length, take, drop, Option, Some, None, IfSome, IsSomeAnd, if◌then◌else◌, min, nat_lt}
+use Rattle.std.specs.Prelude.{◌≡◌, ℕ, ◌+◌, ◌^◌, ◌<◌, ◌≤◌, true, false, List, [], ◌∷◌, ◌++◌, length, take}
+use Rattle.std.specs.Prelude.{drop, Option, Some, None, IfSome, IsSomeAnd, if◌then◌else◌, min, nat_lt}
 use Rattle.outside.specs.Causes.{LinkTold, Read}
 use Rattle.outside.specs.Counts.{full}
 use Rattle.outside.specs.FileCauses.{FilesTold, ReadPart}
@@ -29,7 +30,7 @@ use Rattle.conn_loop.specs.Replying.{request_of}
 use Rattle.conn_loop.specs.declared.phase.Phase.{Phase}
 use Rattle.conn_loop.specs.Phases.{IsKept, HasLease, over_in, stage_in}
 use Rattle.conn_loop.specs.Stages.{Stage, unread, ready, wanting, sending, unmade, broken, looks_left}
-use Rattle.conn_loop.specs.Standing.{Standing}
+use Rattle.conn_loop.specs.ConnState.{ConnState}
 use Rattle.conn_loop.specs.Writing.{Writes}
 
 -- how many bytes a read gave
@@ -46,7 +47,7 @@ HasSome End piece = Unit {0}
 HasSome NotYet piece = Unit {0}
 HasSome Failed piece = Unit {0}
 
--- a read puts a piece behind what was there
+-- a read puts a piece after what was there
 pub record Takes (out : ReadOut) (old new : List ℕ) (link later : LinkTold) : Type 0 where
   pub piece : List ℕ
   pub grown : new ≡ old ++ piece
@@ -66,11 +67,13 @@ HasPart Parts.Failed piece = Unit {0}
 
 -- the piece is what the folder has for this path from a place on
 abbrev pub IsPartOf : PartOut → Folder → (path : List ℕ) → (at : ℕ) → (piece : List ℕ) → Type 0
-IsPartOf (Parts.Got n) folder path at piece = IsSomeAnd (file_at folder path) (λ c. piece ≡ take n (drop at c.0))
+IsPartOf (Parts.Got n) folder path at piece =
+    IsSomeAnd (file_at folder path) (λ c. piece ≡ take n (drop at c.0))
 IsPartOf Parts.Failed folder path at piece = Unit {0}
 
--- a read of a file puts a piece of at most n bytes behind what was there
-pub record TakesPart (folder : Option Folder) (path : List ℕ) (at n : ℕ) (out : PartOut) (old new : List ℕ) : Type 0 where
+-- a read of a file puts a piece of at most n bytes after what was there
+pub record TakesPart (folder : Option Folder) (path : List ℕ) (at n : ℕ) (out : PartOut)
+    (old new : List ℕ) : Type 0 where
   pub piece : List ℕ
   pub grown : new ≡ old ++ piece
   pub long : length piece ≡ part_len out
@@ -98,19 +101,23 @@ SizeFits kept.Empty = Unit {0}
 SizeFits (kept.File size send) = size < 2 ^ 64
 
 -- the front of what is to be written was written
-pub record Sends (end : WriteEnd) (old new : Standing) (link later : LinkTold) : Type 0 where
+pub record Sends (end : WriteEnd) (old new : ConnState) (link later : LinkTold) : Type 0 where
   pub writes : Writes end old.pending new.pending link later
   pub bytes : new.bytes ≡ min (old.bytes + length writes.front) full
   pub waits : new.waits ≡ waits_after end old.waits
   pub same : new ≡ record old { pending = new.pending; bytes = new.bytes; waits = new.waits }
 
 -- the input is refused at a moment, and nothing follows
-abbrev pub Refuses : (code moment : ℕ) (old new : Standing) → Type 0
+abbrev pub Refuses : (code moment : ℕ) (old new : ConnState) → Type 0
 Refuses code moment old new =
-    new ≡ record old { pending = old.pending ++ refusal_text code moment; moments = old.moments ++ moment ∷ []; left = 0 }
+    new ≡ record old {
+      pending = old.pending ++ refusal_text code moment;
+      moments = old.moments ++ moment ∷ [];
+      left = 0;
+    }
 
 -- the application asks for a look
-pub record AsksToLook (moves : Moves) (old new : Standing) : Type 0 where
+pub record AsksToLook (moves : Moves) (old new : ConnState) : Type 0 where
   pub a : Asked
   pub behind : ℕ
   pub seen : Seen
@@ -121,7 +128,7 @@ pub record AsksToLook (moves : Moves) (old new : Standing) : Type 0 where
   pub same : new ≡ record old { stage = wanting a behind seen path }
 
 -- the application answers
-pub record Decides (moves : Moves) (response : Response) (old new : Standing) : Type 0 where
+pub record Decides (moves : Moves) (response : Response) (old new : ConnState) : Type 0 where
   pub a : Asked
   pub behind : ℕ
   pub seen : Seen
@@ -134,7 +141,7 @@ pub record Decides (moves : Moves) (response : Response) (old new : Standing) : 
   pub same : new ≡ record old { stage = ready a behind seen left }
 
 -- what the application does with the request that is whole
-abbrev pub Consults : Moves → Move → (old new : Standing) → Type 0
+abbrev pub Consults : Moves → Move → (old new : ConnState) → Type 0
 Consults moves Look old new = AsksToLook moves old new
 Consults moves (Answer response) old new = Decides moves response old new
 
@@ -146,7 +153,7 @@ stage_behind (kept.File size false) = unread
 stage_behind (kept.File size true) = if nat_lt 0 size then sending 0 size else unread
 
 -- a request is answered at a moment, but for its content
-pub record Responds (response : Response) (moment : ℕ) (old new : Standing) : Type 0 where
+pub record Responds (response : Response) (moment : ℕ) (old new : ConnState) : Type 0 where
   pub a : Asked
   pub behind : ℕ
   pub seen : Seen
@@ -156,7 +163,8 @@ pub record Responds (response : Response) (moment : ℕ) (old new : Standing) : 
   pub counted : old.left ≡ 1 + left
   pub head : List ℕ
   pub sized : SizeFits response.content
-  pub head_is : (reply : Reply) → IsResponseFor a.target response reply → head ≡ head_text (head_of reply) moment (last_word a left)
+  pub head_is : (reply : Reply) → IsResponseFor a.target response reply
+      → head ≡ head_text (head_of reply) moment (last_word a left)
   pub same : new ≡ record old {
     input = drop (a.len + behind) old.input;
     stage = stage_behind response.content;
@@ -172,7 +180,7 @@ SendsSize kept.Empty lease = Unit {0}
 SendsSize (kept.File size false) lease = Unit {0}
 SendsSize (kept.File size true) lease = lease ≡ Some size
 
--- the phase behind a head with this content
+-- the phase after a head with this content
 abbrev pub MakesHead : Content → Phase → Type 0
 MakesHead content phase =
     ((input path : List ℕ) → stage_in input path phase ≡ stage_behind content)
@@ -199,7 +207,7 @@ HasRead part at size phase =
     × ((lease : Option ℕ) → lease ≡ Some size → HasLease phase lease)
 
 -- a part of the content was read, or the file failed
-pub record ReadsPart (folder : Option Folder) (old new : Standing) (files since : FilesTold) : Type 0 where
+pub record ReadsPart (folder : Option Folder) (old new : ConnState) (files since : FilesTold) : Type 0 where
   pub at : ℕ
   pub size : ℕ
   pub was : old.stage ≡ sending at size
@@ -214,7 +222,8 @@ pub record ReadsPart (folder : Option Folder) (old new : Standing) (files since 
   pub same : new ≡ record old { stage = stage_read out at size; pending = new.pending }
 
 -- the look that was asked for found this, and this is the file that is lent, with the entry of its lease
-pub record SeesNext (found : Option (ℕ × ℕ)) (lease : Option (List ℕ)) (entry : Option ℕ) (old new : Standing) : Type 0 where
+pub record SeesNext (found : Option (ℕ × ℕ)) (lease : Option (List ℕ)) (entry : Option ℕ)
+    (old new : ConnState) : Type 0 where
   pub a : Asked
   pub behind : ℕ
   pub seen : Seen
@@ -222,10 +231,11 @@ pub record SeesNext (found : Option (ℕ × ℕ)) (lease : Option (List ℕ)) (e
   pub was : old.stage ≡ wanting a behind seen path
   pub over : old.over ≡ None
   pub some : 0 < looks_left seen
-  pub same : new ≡ record old { stage = ready a behind (next_seen seen found) path; lease = lease; entry = entry }
+  pub same : new
+      ≡ record old { stage = ready a behind (next_seen seen found) path; lease = lease; entry = entry }
 
 -- the look that was asked for couldn't be made
-pub record FailsTo (end : Finish) (old new : Standing) : Type 0 where
+pub record FailsTo (end : Finish) (old new : ConnState) : Type 0 where
   pub a : Asked
   pub behind : ℕ
   pub seen : Seen

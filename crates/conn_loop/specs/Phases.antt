@@ -1,7 +1,8 @@
 -- Inner: what a connection keeps of its input between calls.
 use Rattle.std.specs.Prelude.{◌≡◌, ◌⊎◌, ℕ, ◌+◌, ◌≤◌, ◌<◌, List, length, Option, Some, None}
 use Rattle.app_trait.specs.declared.request.Seen.{Seen}
-use Rattle.app_trait.specs.declared.request.Seen.TheVariants.{Nothing, FirstFound, FirstAbsent, SecondFound, SecondAbsent}
+use Rattle.app_trait.specs.declared.request.Seen.TheVariants.{Nothing, FirstFound, FirstAbsent, SecondFound}
+use Rattle.app_trait.specs.declared.request.Seen.TheVariants.{SecondAbsent}
 use Rattle.warp_request.specs.LimitsAndWords.{head_limit}
 use Rattle.warp_request.specs.declared.verdict.HeadInfo.{HeadInfo}
 use Rattle.warp_request.specs.declared.verdict.Next.TheVariants.{Head}
@@ -10,12 +11,14 @@ use Rattle.warp_response.specs.Statuses.{HasPhrase}
 use Rattle.conn_loop.specs.declared.step.End.{End}
 use Rattle.conn_loop.specs.declared.step.End.TheVariants.{FileFault, NoMemory}
 use Rattle.conn_loop.specs.declared.phase.Phase.{Phase}
-use Rattle.conn_loop.specs.declared.phase.Phase.TheVariants.{Fresh, Waits, Reading, Refused, Ready, Wanting, Sending, Unmade, Broken, Over}
+use Rattle.conn_loop.specs.declared.phase.Phase.TheVariants.{Fresh, Waits, Reading, Refused, Ready, Wanting}
+use Rattle.conn_loop.specs.declared.phase.Phase.TheVariants.{Sending, Unmade, Broken, Over}
 use Rattle.conn_loop.specs.declared.phase.Ahead.{Ahead}
 use Rattle.conn_loop.specs.declared.phase.Ahead.TheVariants.{Unread, Unfinished, Whole}
 use Rattle.conn_loop.specs.declared.phase.Ahead.TheVariants as aheads
 use Rattle.conn_loop.specs.Heads.{asked_in}
-use Rattle.conn_loop.specs.Stages.{Stage, unread, short, reading, refusing, ready, wanting, sending, unmade, broken, finished, looks_left, HasRoom, IsWanting, IsReadyStage}
+use Rattle.conn_loop.specs.Stages.{Stage, unread, short, reading, refusing, ready, wanting, sending, unmade}
+use Rattle.conn_loop.specs.Stages.{broken, finished, looks_left, HasRoom, IsWanting, IsReadyStage}
 
 -- how the connection ended, once it has
 abbrev pub over_in : Phase → Option End
@@ -57,14 +60,15 @@ pub record HasRequest (input : List ℕ) (head : HeadInfo) (behind : ℕ) : Type
   pub head_there : HasHead input head
   pub inside : head.head_len + behind ≤ length input
 
--- what is kept fits the input as it lies, where so many final answers may follow
+-- what is kept fits the input as it lies, where this many final answers may follow
 abbrev pub IsKept : List ℕ → ℕ → Phase → Type 0
 IsKept input left Fresh = Unit {0}
 IsKept input left Waits = length input ≤ head_limit
 IsKept input left (Reading head reader room) = HasHead input head × HasRoom reader head.framing room
 IsKept input left (Refused code) = IsRefusal code
 IsKept input left (Ready head behind seen) = HasRequest input head behind
-IsKept input left (Wanting head behind seen) = HasRequest input head behind × (0 < left) × (0 < looks_left seen)
+IsKept input left (Wanting head behind seen) =
+    HasRequest input head behind × (0 < left) × (0 < looks_left seen)
 IsKept input left (Sending at size) = at < size
 IsKept input left (Unmade end) = (0 < left) × ((end ≡ FileFault) ⊎ (end ≡ NoMemory))
 IsKept input left (Broken at) = Unit {0}

@@ -1,9 +1,12 @@
--- Inner: where a connection stands with the request at the front of its input, and which bytes aren't answered there.
-use Rattle.std.specs.Prelude.{◌≡◌, ◌⊎◌, ℕ, ◌+◌, ◌*◌, ◌-◌, ◌^◌, ◌≤◌, Bool, true, false, List, [], ◌++◌, length, take, drop, Option, Some, None}
+-- Inner: where a connection stands with the request at the front of its input, and which
+-- bytes aren't answered there.
+use Rattle.std.specs.Prelude.{◌≡◌, ◌⊎◌, ℕ, ◌+◌, ◌*◌, ◌-◌, ◌^◌, ◌≤◌, Bool, true, false, List, [], ◌++◌, length}
+use Rattle.std.specs.Prelude.{take, drop, Option, Some, None}
 use Rattle.outside.specs.Folder.{Content, Folder, file_at}
 use Rattle.outside.specs.Counts.{Rises}
 use Rattle.app_trait.specs.declared.request.Seen.{Seen}
-use Rattle.app_trait.specs.declared.request.Seen.TheVariants.{Nothing, FirstFound, FirstAbsent, SecondFound, SecondAbsent}
+use Rattle.app_trait.specs.declared.request.Seen.TheVariants.{Nothing, FirstFound, FirstAbsent, SecondFound}
+use Rattle.app_trait.specs.declared.request.Seen.TheVariants.{SecondAbsent}
 use Rattle.conn_loop.specs.declared.step.End.{End}
 use Rattle.conn_loop.specs.declared.step.End.TheVariants.{FileFault}
 use Rattle.warp_request.specs.declared.body_reader.BodyReader.{BodyReader}
@@ -19,20 +22,21 @@ use Rattle.warp_request.specs.LimitsAndWords.{head_limit}
 use Rattle.conn_loop.specs.declared.bodies.TheConstants.{CHUNKED_LIMIT}
 use Rattle.conn_loop.specs.declared.limits.TheConstants.{ROOM}
 use Rattle.conn_loop.specs.Answers.{answers_within, answers_behind}
-use Rattle.conn_loop.specs.Turns.{turn_of}
-use Rattle.conn_loop.specs.Turns as turn
+use Rattle.conn_loop.specs.FirstRequest.{first_request}
+use Rattle.conn_loop.specs.FirstRequest as front
 
 pub data Stage : Type 0 where
   -- what the input begins with isn't known
   unread : Stage
   -- the input is too little to say
   short : Stage
-  -- the body of the request whose head is at the front of the input is read, and at most so many more bytes are its
+  -- the body of the request whose head is at the front of the input is read, and at most
+  -- this many more bytes belong to it
   reading : Asked → BodyReader → ℕ → Stage
   -- the input is refused
   refusing : ℕ → Stage
-  -- the request whose head is at the front of the input is whole, with so many bytes of the input behind the head, and its
-  -- looks for files, the last of which was for this path, have found this
+  -- the request whose head is at the front of the input is whole, with this many bytes of the input after the
+  -- head, and its looks for files, the last of which was for this path, have found this
   ready : Asked → ℕ → Seen → List ℕ → Stage
   -- the same, and a look for this path is asked for
   wanting : Asked → ℕ → Seen → List ℕ → Stage
@@ -40,7 +44,8 @@ pub data Stage : Type 0 where
   sending : ℕ → ℕ → Stage
   -- the request that is whole can't be answered: once what was made is written, the connection ends so
   unmade : End → Stage
-  -- the file failed whose content was to be sent from this place on: once what was made is written, the connection ends
+  -- the file failed whose content was to be sent from this place on: once what was made
+  -- is written, the connection ends
   broken : ℕ → Stage
   -- the connection is over
   finished : Stage
@@ -50,8 +55,8 @@ abbrev pub answers_left : (given : Bool) → (Asked → Reply) → ℕ → List 
 answers_left true reply left s moments = answers_behind reply left s moments
 answers_left false reply left s moments = answers_within reply left s moments
 
--- The unanswered bytes while a body is read: the head at the front of the input, what the reader was fed, which isn't kept,
--- and the rest of the input.
+-- The unanswered bytes while a body is read: the head at the front of the input, what the reader was fed,
+-- which isn't kept, and the rest of the input.
 pub record IsReading (a : Asked) (reader : BodyReader) (input ahead : List ℕ) : Type 0 where
   pub fed : List ℕ
   pub parts : ahead ≡ take a.len input ++ (fed ++ drop a.len input)
@@ -60,26 +65,28 @@ pub record IsReading (a : Asked) (reader : BodyReader) (input ahead : List ℕ) 
   pub goes_on : body_of a.framing fed ≡ body.more
   pub asks : (t : List ℕ) → next_of (ahead ++ t) ≡ asked a
 
--- they begin with a whole request, behind which the rest of the input follows
+-- they begin with a whole request, after which the rest of the input follows
 pub record IsReady (a : Asked) (behind : ℕ) (input ahead : List ℕ) : Type 0 where
   pub len : ℕ
   pub inside : a.len + behind ≤ length input
   pub fits : len ≤ length ahead
   pub rest : drop len ahead ≡ drop (a.len + behind) input
-  pub is_whole : (t : List ℕ) → turn_of (ahead ++ t) ≡ turn.whole a len
+  pub is_whole : (t : List ℕ) → first_request (ahead ++ t) ≡ front.whole a len
 
 -- they begin with a whole request
 pub record HasWhole (ahead : List ℕ) : Type 0 where
   pub a : Asked
   pub len : ℕ
-  pub is_whole : (t : List ℕ) → turn_of (ahead ++ t) ≡ turn.whole a len
+  pub is_whole : (t : List ℕ) → first_request (ahead ++ t) ≡ front.whole a len
 
--- these are the bytes that aren't answered, and the interim answer to the first request among them was given or not
+-- these are the bytes that aren't answered, and the interim answer to the first request
+-- among them was given or not
 abbrev pub LiesAhead : Stage → (given : Bool) → (input ahead : List ℕ) → Type 0
 LiesAhead unread given input ahead = (given ≡ false) × (ahead ≡ input)
 LiesAhead short given input ahead = (given ≡ false) × (ahead ≡ input) × (next_of input ≡ more)
 LiesAhead (reading a reader room) given input ahead = (given ≡ true) × IsReading a reader input ahead
-LiesAhead (refusing code) given input ahead = (given ≡ true) × ((t : List ℕ) → turn_of (ahead ++ t) ≡ turn.refused code)
+LiesAhead (refusing code) given input ahead =
+    (given ≡ true) × ((t : List ℕ) → first_request (ahead ++ t) ≡ front.refused code)
 LiesAhead (ready a behind seen path) given input ahead = (given ≡ true) × IsReady a behind input ahead
 LiesAhead (wanting a behind seen path) given input ahead = (given ≡ true) × IsReady a behind input ahead
 LiesAhead (sending at size) given input ahead = (given ≡ false) × (ahead ≡ input)
@@ -93,7 +100,7 @@ most_of framings.None = 0
 most_of (framings.Length n) = n
 most_of framings.Chunked = CHUNKED_LIMIT
 
--- a reader was fed some bytes of a body of this framing, and at most so many more are its
+-- a reader was fed some bytes of a body of this framing, and at most this many more belong to it
 pub record HasRoom (reader : BodyReader) (framing : Framing) (room : ℕ) : Type 0 where
   pub fed : List ℕ
   pub stands : Reads reader framing fed
@@ -176,7 +183,8 @@ looks_left FirstAbsent = 1
 looks_left (SecondFound size mtime) = 0
 looks_left SecondAbsent = 0
 
--- Steps that are left until a request is answered whole, at most: a bound that each step of a connection makes smaller.
+-- Steps that are left until a request is answered whole, at most: a bound that each step
+-- of a connection makes smaller.
 abbrev pub steps_left : Stage → List ℕ → ℕ
 steps_left unread input = body_steps + 2 * (ROOM - length input) + 1
 steps_left short input = body_steps + 2 * (ROOM - length input)
@@ -225,7 +233,8 @@ unread_at (unmade end) folder lease = []
 unread_at (broken at) folder lease = drop at (leased_bytes folder lease)
 unread_at finished folder lease = []
 
--- the end that the connection comes to once what was made is written, where a file has failed or memory was wanted
+-- the end that the connection comes to once what was made is written, where a file has
+-- failed or memory was wanted
 abbrev pub failing : Stage → Option End
 failing unread = None
 failing short = None

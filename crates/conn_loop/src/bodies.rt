@@ -1,4 +1,5 @@
-//! Bodies, read where they lie: content is passed over in the input buffer, and what was passed over makes room for more.
+//! Bodies, read where they lie: content is passed over in the input buffer, and what was
+//! passed over makes room for more.
 ghost use Rattle.std.specs.Prelude.{◌≡◌, ◌≤◌, ◌+◌, ◌-◌, ◌*◌, ◌++◌, List, ℕ, Option, None, true, length, take, drop};
 ghost use Rattle.warp_request.specs.BodyReader.{Represents as Reads};
 ghost use Rattle.warp_request.specs.Next.{next_of};
@@ -13,8 +14,8 @@ use crate::phase::Phase;
 use app_trait::Seen;
 use warp_request::{BodyReader, BodyState, Framing, HeadInfo};
 
-/// A chunked body has fewer bytes: each of its chunks has content, of at most 1 MiB in all, and besides that a line of at
-/// most 256 bytes and two at its end.
+/// A chunked body has fewer bytes: each of its chunks has content, of at most 1 MiB in all, and besides that
+/// a line of at most 256 bytes and two at its end.
 pub(crate) const CHUNKED_LIMIT: u64 = 536_870_912;
 
 /// The most bytes that a body of this framing may have.
@@ -28,8 +29,8 @@ pub(crate) fn most_bytes(framing: Framing) -> u64
     }
 }
 
-/// Reads on in the body behind the head at the front of the input, and says where that leads. The bytes that belong to it
-/// are forgotten unless it came to its end.
+/// Reads on in the body after the head at the front of the input, and says where that leads. The bytes that
+/// belong to it are forgotten unless it came to its end.
 #[inline(always)]
 pub(crate) fn read_on(
     input: &mut Buffer,
@@ -46,7 +47,8 @@ pub(crate) fn read_on(
         → (path : List ℕ) → LiesAhead (stage_in input.new path result) true input.new ahead }
     ensures kept { (left : ℕ) (size : Option ℕ) → IsKept input.new left result × HasLease result size }
     ensures read { (path : List ℕ) → IsReadUp (stage_in input.new path result) input.new }
-    ensures nearer { (path : List ℕ) → steps_left (stage_in input.new path result) input.new ≤ 2 * room + (1 - length (drop head.head_len input.old)) + 6 }
+    ensures nearer { (path : List ℕ) → steps_left (stage_in input.new path result) input.new
+        ≤ 2 * room + (1 - length (drop head.head_len input.old)) + 6 }
     ensures over { over_in result ≡ None }
     ensures begun { (path : List ℕ) → IsBegun (stage_in input.new path result) }
 {

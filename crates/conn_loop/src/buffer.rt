@@ -1,8 +1,9 @@
-//! A queue of bytes in a bounded room: it takes at its end and gives at its front. Bytes stay where they lie until the
-//! room behind them runs out, so that a request is parsed where it was read and a run of requests moves nothing.
+//! A queue of bytes in a bounded room: it takes at its end and gives at its front. Bytes stay where
+//! they lie until the room after them runs out, so that a request is parsed where it was read and a
+//! run of requests moves nothing.
 //!
-//! The memory for the whole room is taken when the buffer is made. It is touched from the front on, as bytes need it: a
-//! connection that has read little has little memory in use.
+//! The memory for the whole room is taken when the buffer is made. It is touched from the front on, as bytes
+//! need it: a connection that has read little has little memory in use.
 ghost use Rattle.std.specs.Prelude.{◌≡◌, ◌≤◌, ◌<◌, ◌+◌, ◌-◌, ◌++◌, [], IfOk, IfSome, length, take, drop, vec_len, vec_capacity};
 ghost use Rattle.outside.specs.Causes.{GivesWithin, Read, bytes_got};
 ghost use Rattle.outside.specs.FileCauses.{PartWithin, ReadPart, ReadsFrom};
@@ -30,7 +31,8 @@ impl Model for Buffer {
 
     ghost view = { λ a. take (a.end - a.start) (drop a.start a.room.items) };
 
-    ghost invariant = { λ a. (a.start ≤ a.end) × (a.end ≤ vec_len a.room) × (vec_len a.room ≤ 16896) × (16896 ≤ vec_capacity a.room) };
+    ghost invariant = { λ a. (a.start ≤ a.end) × (a.end ≤ vec_len a.room) × (vec_len a.room ≤ 16896)
+        × (16896 ≤ vec_capacity a.room) };
 }
 
 impl Buffer {
@@ -54,7 +56,7 @@ impl Buffer {
         &self.room[self.start..self.end]
     }
 
-    /// Forgets the first `n` bytes. The caller owes that there are so many.
+    /// Forgets the first `n` bytes. The caller owes that there are that many.
     pub(crate) fn skip(&mut self, n: usize)
         requires { n ≤ length self.old }
         ensures { self.new ≡ drop n self.old }
@@ -69,7 +71,7 @@ impl Buffer {
         self.end = end;
     }
 
-    /// Forgets all but the first `n` bytes. The caller owes that there are so many.
+    /// Forgets all but the first `n` bytes. The caller owes that there are that many.
     pub(crate) fn keep(&mut self, n: usize)
         requires { n ≤ length self.old }
         ensures { self.new ≡ take n self.old }
@@ -77,7 +79,7 @@ impl Buffer {
         self.end = self.start + n;
     }
 
-    /// Puts a piece behind the bytes. The caller owes that it fits.
+    /// Puts a piece after the bytes. The caller owes that it fits.
     pub(crate) fn add(&mut self, piece: &[u8])
         requires { length self.old + length piece.now ≤ ROOM }
         ensures { self.new ≡ self.old ++ piece.now }
@@ -87,7 +89,7 @@ impl Buffer {
         self.start = start;
     }
 
-    /// Reads from the link behind the bytes. The caller owes that there is room.
+    /// Reads from the link after the bytes. The caller owes that there is room.
     pub(crate) fn fill<L: Link>(&mut self, link: &mut L) -> ReadOut
         requires { length self.old < ROOM }
         ensures { Takes result self.old self.new (L.told link.old) (L.told link.new) }
@@ -98,8 +100,9 @@ impl Buffer {
         out
     }
 
-    /// Reads at most `n` bytes of a file from place `at` on behind the bytes. The caller owes that they fit, and that the
-    /// file has that place.
+    /// Reads at most `n` bytes of a file from place `at` on after the bytes. The caller owes that they fit,
+    /// and that the file has that place.
+    #[inline(always)]
     pub(crate) fn part<F: Files>(
         &mut self,
         files: &mut F,
@@ -123,14 +126,15 @@ impl Buffer {
     }
 }
 
-/// Makes room for `more` bytes behind those from `start` to `end`, which move to the front where that serves. The result
-/// is where they start.
+/// Makes room for `more` bytes behind those from `start` to `end`, which move to the front where that serves.
+/// The result is where they start.
 fn make_room(room: &mut Vec<u8>, start: usize, end: usize, more: usize) -> usize
     requires order { start ≤ end }
     requires inside { end ≤ vec_len room.old }
     requires fits { (end - start) + more ≤ ROOM }
     requires bounded { (vec_len room.old ≤ ROOM) × (ROOM ≤ vec_capacity room.old) }
-    ensures same { take (end - start) (drop result room.new.items) ≡ take (end - start) (drop start room.old.items) }
+    ensures same { take (end - start) (drop result room.new.items)
+        ≡ take (end - start) (drop start room.old.items) }
     ensures fits { result + (end - start) + more ≤ vec_len room.new }
     ensures bounded { (vec_len room.new ≤ ROOM) × (ROOM ≤ vec_capacity room.new) }
 {
@@ -156,7 +160,7 @@ fn move_to_front(room: &mut Vec<u8>, start: usize, end: usize)
     room.copy_within(start..end, 0);
 }
 
-/// Widens the room, so that it has at least so many bytes. Those that were there stay.
+/// Widens the room, so that it has at least this many bytes. Those that were there stay.
 fn widen(room: &mut Vec<u8>, long: usize)
     requires short { vec_len room.old < long }
     requires fits { long ≤ ROOM }
@@ -177,13 +181,14 @@ fn widen(room: &mut Vec<u8>, long: usize)
 /// Bytes that mean nothing, with which a room is widened.
 static EMPTY: [u8; ROOM] = [0; ROOM];
 
-/// Puts a piece behind the bytes from `start` to `end`. The result is where these start afterwards.
+/// Puts a piece after the bytes from `start` to `end`. The result is where these start afterwards.
 fn add_behind(room: &mut Vec<u8>, start: usize, end: usize, piece: &[u8]) -> usize
     requires order { start ≤ end }
     requires inside { end ≤ vec_len room.old }
     requires fits { (end - start) + length piece.now ≤ ROOM }
     requires bounded { (vec_len room.old ≤ ROOM) × (ROOM ≤ vec_capacity room.old) }
-    ensures is { take (end - start + length piece.now) (drop result room.new.items) ≡ take (end - start) (drop start room.old.items) ++ piece.now }
+    ensures is { take (end - start + length piece.now) (drop result room.new.items)
+        ≡ take (end - start) (drop start room.old.items) ++ piece.now }
     ensures fits { result + (end - start) + length piece.now ≤ vec_len room.new }
     ensures bounded { (vec_len room.new ≤ ROOM) × (ROOM ≤ vec_capacity room.new) }
 {
@@ -201,7 +206,7 @@ fn write_at(room: &mut [u8], at: usize, piece: &[u8])
     room[at..at + piece.len()].copy_from_slice(piece);
 }
 
-/// Reads from the link behind the bytes from `start` to `end`. The result is where these start afterwards.
+/// Reads from the link after the bytes from `start` to `end`. The result is where these start afterwards.
 fn read_behind<L: Link>(
     link: &mut L,
     room: &mut Vec<u8>,
@@ -212,7 +217,8 @@ fn read_behind<L: Link>(
     requires inside { end ≤ vec_len room.old }
     requires fits { (end - start) < ROOM }
     requires bounded { (vec_len room.old ≤ ROOM) × (ROOM ≤ vec_capacity room.old) }
-    ensures takes { Takes result.1 (take (end - start) (drop start room.old.items)) (take (end - start + got_len result.1) (drop result.0 room.new.items))
+    ensures takes { Takes result.1 (take (end - start) (drop start room.old.items))
+        (take (end - start + got_len result.1) (drop result.0 room.new.items))
         (L.told link.old) (L.told link.new) }
     ensures fits { result.0 + (end - start) + got_len result.1 ≤ vec_len room.new }
     ensures bounded { (vec_len room.new ≤ ROOM) × (ROOM ≤ vec_capacity room.new) }
@@ -262,7 +268,8 @@ fn read_at<L: Link>(link: &mut L, room: &mut [u8], at: usize) -> ReadOut
     link.read(&mut room[at..])
 }
 
-/// Reads at most `n` bytes of a file behind the bytes from `start` to `end`. The result is where these start afterwards.
+/// Reads at most `n` bytes of a file after the bytes from `start` to `end`. The result
+/// is where these start afterwards.
 fn part_behind<F: Files>(
     files: &mut F,
     lease: &mut Lease<F>,
@@ -278,7 +285,8 @@ fn part_behind<F: Files>(
     requires fits { (end - start) + n ≤ ROOM }
     requires bounded { (vec_len room.old ≤ ROOM) × (ROOM ≤ vec_capacity room.old) }
     requires there { from < lease.old.size }
-    ensures takes { TakesPart F.folder (F.file_path lease.old.file) from n result.1 (take (end - start) (drop start room.old.items))
+    ensures takes { TakesPart F.folder (F.file_path lease.old.file) from n result.1
+        (take (end - start) (drop start room.old.items))
         (take (end - start + part_len result.1) (drop result.0 room.new.items)) }
     ensures fits { result.0 + (end - start) + part_len result.1 ≤ vec_len room.new }
     ensures bounded { (vec_len room.new ≤ ROOM) × (ROOM ≤ vec_capacity room.new) }
@@ -306,7 +314,8 @@ fn part_at<F: Files>(
     requires inside { from < lease.old.size }
     ensures within { PartWithin result (take n (drop at room.new)) }
     ensures before { take at room.new ≡ take at room.old }
-    ensures reads { IfSome F.folder (λ f. ReadsFrom f (F.file_path lease.old.file) from (take n (drop at room.new)) result) }
+    ensures reads { IfSome F.folder
+        (λ f. ReadsFrom f (F.file_path lease.old.file) from (take n (drop at room.new)) result) }
     ensures path { F.file_path lease.new.file ≡ F.file_path lease.old.file }
     ensures size { lease.new.size ≡ lease.old.size }
     ensures entry { entry_of lease.new ≡ entry_of lease.old }

@@ -6,7 +6,7 @@ ghost use Rattle.conn_loop.specs.Heads.{asked_in};
 use warp_request::HeadInfo;
 use warp_response::LastWord;
 
-/// Whether the answer closes the connection, where so many final answers may follow.
+/// Whether the answer closes the connection, where this many final answers may follow.
 #[tactic(auto, unfolding(crate::specs::Answers::closes))]
 fn closes(head: &HeadInfo, left: u32) -> bool
     ensures { (input : List ℕ) → result ≡ closes_of (asked_in input head.now) left }
@@ -14,7 +14,7 @@ fn closes(head: &HeadInfo, left: u32) -> bool
     !head.keeps || left == 0
 }
 
-/// What the answer says of the connection, where so many final answers may follow (RFC 9112, section 9.3).
+/// What the answer says of the connection, where this many final answers may follow (RFC 9112, section 9.3).
 #[tactic(auto, unfolding(crate::specs::Answers::last_word))]
 pub(crate) fn last_word(head: &HeadInfo, left: u32) -> LastWord
     ensures { (input : List ℕ) → result ≡ last_word_of (asked_in input head.now) left }

@@ -4,7 +4,7 @@ ghost use Rattle.outside.specs.Causes.{IsFresh, LinkTold};
 ghost use Rattle.app_trait.specs.Moves.{Moves};
 ghost use Rattle.conn_loop.specs.Causes.{IsCaused, CountsWaits, Clocked, Keeps, end_of};
 ghost use Rattle.conn_loop.specs.Replying.{serving_over};
-ghost use Rattle.conn_loop.specs.Standing.{Represents, StepImpliesFor, AsksFor, Counted, IsAsking, at_first};
+ghost use Rattle.conn_loop.specs.ConnState.{Represents, StepImpliesFor, AsksFor, Counted, IsAsking, at_first};
 ghost use Rattle.conn_loop.specs.Steps.{ComesFor, DutyOf, Goes, GoesOver, IsPlain, Proceeds, stage_kept, to_go};
 
 mod answering;
@@ -42,9 +42,9 @@ pub struct Conn<F: Files> {
 impl<F: Files> Model for Conn<F> {
     ghost use Rattle.std.specs.Prelude.{◌≡◌, ◌≤◌, ◌+◌, vec_len, vec_capacity, option_map};
     ghost use Rattle.fd_cache.specs.Calls.{entry_held};
-    ghost use Rattle.conn_loop.specs.Standing.{Standing};
+    ghost use Rattle.conn_loop.specs.ConnState.{ConnState};
 
-    ghost Value = { Standing };
+    ghost Value = { ConnState };
 
     ghost use Rattle.conn_loop.specs.Phases.{over_in, stage_in, IsKept, HasLease};
 
@@ -66,10 +66,12 @@ impl<F: Files> Model for Conn<F> {
 }
 
 impl<F: Files> Conn<F> {
-    /// A connection that has read nothing and written nothing. All its memory is taken here; an error is want of memory.
+    /// A connection that has read nothing and written nothing. All its memory is taken
+    /// here; an error is want of memory.
     pub fn new(alloc: Global) -> Result<Conn<F>, AllocError>
         ensures is { IfOk result (λ conn. conn ≡ at_first) }
-        ensures represents { IfOk result (λ conn. (moves : Moves) (link : LinkTold) → IsFresh link → Represents moves F.folder conn link) }
+        ensures represents { IfOk result
+            (λ conn. (moves : Moves) (link : LinkTold) → IsFresh link → Represents moves F.folder conn link) }
     {
         let input = Buffer::new(alloc)?;
         let output = Buffer::new(alloc)?;
@@ -96,10 +98,10 @@ impl<F: Files> Conn<F> {
         &self.moments
     }
 
-    /// Brings the connection as far as it goes: reads, answers and writes until the link must be waited for, a file is wanted
-    /// or the connection is over. It takes no memory. The caller owes the link, the files and the application of the calls
-    /// before, and a link that hasn't ended unless the connection is over. After `Done` every later call answers the same and
-    /// touches nothing.
+    /// Brings the connection as far as it goes: reads, answers and writes until the link must be waited for,
+    /// a file is wanted or the connection is over. It takes no memory. The caller owes the link, the files
+    /// and the application of the calls before, and a link that hasn't ended unless the connection is over.
+    /// After `Done` every later call answers the same and touches nothing.
     pub fn advance<L: Link, A: App, C: Clock>(
         &mut self,
         link: &mut L,
@@ -109,24 +111,34 @@ impl<F: Files> Conn<F> {
         scratch: &mut Scratch,
     ) -> Step
         requires { Represents (A.moves app.now) F.folder self.old (L.told link.old) }
-        // The connection stands for what the link has taken and sent, so that what was sent is a prefix of the answers.
+        // The connection stands for what the link has taken and sent, so that what was
+        // sent is a prefix of the answers.
         ensures represents { Represents (A.moves app.now) F.folder self.new (L.told link.new) }
         // What each step says of the bytes. A clean end and a cut come exactly where this holds.
-        ensures implies { StepImpliesFor result (serving_over (A.moves app.now) F.folder) self.new (L.told link.new) }
+        ensures implies { StepImpliesFor result (serving_over (A.moves app.now) F.folder) self.new
+            (L.told link.new) }
         // The moments are those that the clock gave, whose stillness stays.
         ensures clocked { Clocked self.old self.new (C.told clock.old) (C.told clock.new) }
-        // A fault comes only where the count of its own object and direction rose, want of memory only where it was supplied.
-        ensures caused { IfNone self.old.over (IsCaused result self.old self.new (L.told link.old) (L.told link.new) (F.told files.old) (F.told files.new)) }
-        // A wait is answered exactly where the link told one of that direction, and there is at most one. The counts of bytes
-        // and waits go on being the link's.
-        ensures counted { CountsWaits result (L.told link.old) (L.told link.new) × (Counted self.old (L.told link.old) → Counted self.new (L.told link.new)) }
+        // A fault comes only where the count of its own object and direction rose, want of
+        // memory only where it was supplied.
+        ensures caused { IfNone self.old.over
+            (IsCaused result self.old self.new (L.told link.old) (L.told link.new)
+            (F.told files.old) (F.told files.new)) }
+        // A wait is answered exactly where the link told one of that direction, and there is at most one. The
+        // counts of bytes and waits go on being the link's.
+        ensures counted { CountsWaits result (L.told link.old) (L.told link.new)
+            × (Counted self.old (L.told link.old) → Counted self.new (L.told link.new)) }
         // What ended stays so, and touches nothing; a file is wanted exactly where one is asked for.
-        ensures over { (self.new.over ≡ end_of result) × ((result ≡ Step.WantFile) ↔ IsAsking self.new) × IfSome self.old.over (λ end.
-            (result ≡ Step.Done end) × (self.new ≡ self.old) × (link.new ≡ link.old) × (files.new ≡ files.old) × (clock.new ≡ clock.old)) }
+        ensures over { (self.new.over ≡ end_of result) × ((result ≡ Step.WantFile) ↔ IsAsking self.new)
+            × IfSome self.old.over (λ end.
+            (result ≡ Step.Done end) × (self.new ≡ self.old) × (link.new ≡ link.old)
+            × (files.new ≡ files.old) × (clock.new ≡ clock.old)) }
         // The lease that is held stays, and its entry.
         ensures lends { (self.new.lease ≡ self.old.lease) × (self.new.entry ≡ self.old.entry) }
-        // What the link plans and all that files tell but faults stay, no count of faults falls, and the steps left don't grow.
-        ensures keeps { Keeps (L.told link.old) (L.told link.new) (F.told files.old) (F.told files.new) × (to_go self.new ≤ to_go self.old) }
+        // What the link plans and all that files tell but faults stay, no count of faults falls,
+        // and the steps left don't grow.
+        ensures keeps { Keeps (L.told link.old) (L.told link.new) (F.told files.old) (F.told files.new)
+            × (to_go self.new ≤ to_go self.old) }
     {
         if let Some(end) = self.over() {
             return Step::Done(end);
@@ -169,11 +181,13 @@ impl<F: Files> Conn<F> {
         requires running { self.old.over ≡ None }
         requires stands { ComesFor None (serving_over (A.moves app.now) F.folder) self.old (L.told link.old) }
         requires asks { AsksFor (A.moves app.now) self.old.stage }
-        ensures stands { ComesFor (Some result) (serving_over (A.moves app.now) F.folder) self.new (L.told link.new) }
+        ensures stands { ComesFor (Some result) (serving_over (A.moves app.now) F.folder) self.new
+            (L.told link.new) }
         ensures proceeds { Proceeds (A.moves app.now) (Some result) self.old self.new }
         ensures nearer { to_go self.new ≤ to_go self.old }
         ensures clocked { Clocked self.old self.new (C.told clock.old) (C.told clock.new) }
-        ensures goes { GoesOver (Some result) self.old self.new (L.told link.old) (L.told link.new) (F.told files.old) (F.told files.new) }
+        ensures goes { GoesOver (Some result) self.old self.new (L.told link.old) (L.told link.new)
+            (F.told files.old) (F.told files.new) }
     {
         'requests: loop {
             if let Some(step) = self.step(link, files, app, clock, scratch) {
@@ -183,6 +197,7 @@ impl<F: Files> Conn<F> {
     }
 
     /// One step towards the next answer. `None` comes where the connection goes on.
+    #[inline(always)]
     fn step<L: Link, A: App, C: Clock>(
         &mut self,
         link: &mut L,
@@ -198,7 +213,8 @@ impl<F: Files> Conn<F> {
         ensures proceeds { Proceeds (A.moves app.now) result self.old self.new }
         ensures nearer { (to_go self.new ≤ to_go self.old) × IfNone result (to_go self.new < to_go self.old) }
         ensures clocked { Clocked self.old self.new (C.told clock.old) (C.told clock.new) }
-        ensures goes { GoesOver result self.old self.new (L.told link.old) (L.told link.new) (F.told files.old) (F.told files.new) }
+        ensures goes { GoesOver result self.old self.new (L.told link.old) (L.told link.new)
+            (F.told files.old) (F.told files.new) }
     {
         match self.duty() {
             Duty::Answer => self.answer_next(link, app, clock, scratch),
@@ -225,6 +241,7 @@ impl<F: Files> Conn<F> {
     }
 
     /// One step towards the answer to what is ahead.
+    #[inline(always)]
     fn answer_next<L: Link, A: App, C: Clock>(
         &mut self,
         link: &mut L,

@@ -8,30 +8,34 @@ ghost use Rattle.conn_loop.specs.Replying.{Replying};
 ghost use Rattle.outside.specs.Folder.{Folder};
 ghost use Rattle.app_trait.specs.Moves.{Moves};
 ghost use Rattle.conn_loop.specs.Replying.{serving_over};
-ghost use Rattle.conn_loop.specs.Standing.{Represents, SendsPrefixFor, Standing};
+ghost use Rattle.conn_loop.specs.ConnState.{Represents, SendsPrefixFor, ConnState};
 
 use crate::limits::ANSWER_LIMIT;
 
 /// Where more bytes come, the answers go on: what was answered stays.
 pub fn answers_grow_with_bytes()
-    ensures { (reply : Replying) (s t moments : List ℕ) → BeginsWith (answers_of reply (s ++ t) moments) (answers_of reply s moments) }
+    ensures { (reply : Replying) (s t moments : List ℕ)
+        → BeginsWith (answers_of reply (s ++ t) moments) (answers_of reply s moments) }
 {}
 
 /// Where more moments come, the answers go on.
 pub fn answers_grow_with_moments()
-    ensures { (reply : Replying) (s moments later : List ℕ) → BeginsWith (answers_of reply s (moments ++ later)) (answers_of reply s moments) }
+    ensures { (reply : Replying) (s moments later : List ℕ)
+        → BeginsWith (answers_of reply s (moments ++ later)) (answers_of reply s moments) }
 {}
 
 /// Moments beyond those that the bytes call for change nothing.
 pub fn answers_take_no_more_moments()
-    ensures { (reply : Replying) (s moments later : List ℕ) → finals_of s ≤ length moments → answers_of reply s (moments ++ later) ≡ answers_of reply s moments }
+    ensures { (reply : Replying) (s moments later : List ℕ) → finals_of s ≤ length moments
+        → answers_of reply s (moments ++ later) ≡ answers_of reply s moments }
 {}
 
-/// Behind an answer that closes, no bytes are answered.
+/// After an answer that closes, no bytes are answered.
 pub fn closed_stays()
     ensures closed { (s t : List ℕ) → IsClosed s → IsClosed (s ++ t) }
     ensures finals { (s t : List ℕ) → IsClosed s → finals_of (s ++ t) ≡ finals_of s }
-    ensures answers { (reply : Replying) (s t moments : List ℕ) → IsClosed s → answers_of reply (s ++ t) moments ≡ answers_of reply s moments }
+    ensures answers { (reply : Replying) (s t moments : List ℕ) → IsClosed s
+        → answers_of reply (s ++ t) moments ≡ answers_of reply s moments }
 {}
 
 /// No bytes close nothing.
@@ -41,13 +45,16 @@ pub fn nothing_is_open()
 
 /// What a connection has sent is a prefix of the answers, also between its calls.
 pub fn sent_is_a_prefix()
-    ensures { (moves : Moves) (folder : Option Folder) (conn : Standing) (link : LinkTold) → Represents moves folder conn link
+    ensures { (moves : Moves) (folder : Option Folder) (conn : ConnState) (link : LinkTold)
+        → Represents moves folder conn link
         → SendsPrefixFor (serving_over moves folder) conn link }
 {}
 
-/// The moments of a connection only grow: those that it had stay, in their order, and those that the clock gave come behind.
+/// The moments of a connection only grow: those that it had stay, in their order, and those
+/// that the clock gave come after.
 pub fn moments_grow()
-    ensures { (old new : Standing) (clock after : ClockTold) → Clocked old new clock after → BeginsWith new.moments old.moments }
+    ensures { (old new : ConnState) (clock after : ClockTold) → Clocked old new clock after
+        → BeginsWith new.moments old.moments }
 {}
 
 /// A connection gives as many final answers as the definition says.

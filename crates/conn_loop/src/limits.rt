@@ -3,10 +3,11 @@
 /// How many final answers a connection gives.
 pub const ANSWER_LIMIT: u32 = 1_000;
 
-/// Content leaves in pieces of at most so many bytes, and no answer is made behind as many that aren't written.
+/// Content leaves in pieces of at most this many bytes, and no answer is made after as
+/// many that aren't written.
 pub(crate) const PIECE: usize = 16_384;
 
-/// Bytes for which a buffer has room: a piece, and behind fewer bytes than that any head without a Location.
+/// Bytes for which a buffer has room: a piece, and after fewer bytes than that any head without a Location.
 pub(crate) const ROOM: usize = 16_896;
 
 /// The first bytes of a buffer's room, which are all of it that most connections touch.

@@ -29,7 +29,7 @@ pub(crate) enum Phase {
     /// The request whose head is at the front of the input is whole.
     Ready {
         head: HeadInfo,
-        /// The bytes of the input behind the head that are its.
+        /// How many bytes after the head belong to the request.
         behind: usize,
         /// What its looks for files have found.
         seen: Seen,
@@ -56,12 +56,14 @@ pub(crate) enum Phase {
 }
 
 impl Phase {
-    /// What was read behind the input is judged anew, where what was there was too little to say.
+    /// What was read after the input is judged anew, where what was there was too little to say.
     pub(crate) fn read(&mut self, out: ReadOut)
-        ensures stage { (input path : List ℕ) → stage_in input path self.new ≡ stage_after out (stage_in input path self.old) }
+        ensures stage { (input path : List ℕ)
+            → stage_in input path self.new ≡ stage_after out (stage_in input path self.old) }
         ensures over { over_in self.new ≡ over_in self.old }
         ensures lease { (size : Option ℕ) → HasLease self.old size → HasLease self.new size }
-        ensures kept { (input longer : List ℕ) (left : ℕ) → length input ≤ length longer → (got_len out ≡ 0 → longer ≡ input)
+        ensures kept { (input longer : List ℕ) (left : ℕ) → length input ≤ length longer
+            → (got_len out ≡ 0 → longer ≡ input)
             → IsKept input left self.old → IsKept longer left self.new }
     {
         match out {
@@ -70,12 +72,14 @@ impl Phase {
         }
     }
 
-    /// More bytes came behind the input: what was too little to say is to be judged anew.
+    /// More bytes came after the input: what was too little to say is to be judged anew.
     fn more_came(&mut self)
-        ensures stage { (input path : List ℕ) → stage_in input path self.new ≡ grown (stage_in input path self.old) }
+        ensures stage { (input path : List ℕ)
+            → stage_in input path self.new ≡ grown (stage_in input path self.old) }
         ensures over { over_in self.new ≡ over_in self.old }
         ensures lease { (size : Option ℕ) → HasLease self.old size → HasLease self.new size }
-        ensures kept { (input longer : List ℕ) (left : ℕ) → length input ≤ length longer → IsKept input left self.old → IsKept longer left self.new }
+        ensures kept { (input longer : List ℕ) (left : ℕ) → length input ≤ length longer
+            → IsKept input left self.old → IsKept longer left self.new }
     {
         if let Phase::Waits = self {
             *self = Phase::Fresh;

@@ -24,7 +24,8 @@ pub enum Step {
     WantRead,
     /// An answer isn't written whole, and the link takes no more bytes yet.
     WantWrite,
-    /// The application asks to look for a path, which `Conn::wanted` tells. `Conn::supply` is owed what was found there.
+    /// The application asks to look for a path, which `Conn::wanted` tells.
+    /// `Conn::supply` is owed what was found there.
     WantFile,
     /// The connection is over.
     Done(End),

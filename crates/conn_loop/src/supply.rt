@@ -1,4 +1,5 @@
-//! What comes and goes between a connection and the one who keeps files: what is supplied, and what is left at the end.
+//! What comes and goes between a connection and the one who keeps files: what is
+//! supplied, and what is left at the end.
 
 use fd_cache::Lease;
 use outside::Files;

@@ -1,10 +1,10 @@
-// What a connection writes over a link, files and a clock in memory, and in how many writes.
+//! What a connection writes over a link, files and a clock in memory, and in how many writes.
 ghost use Rattle.std.specs.Prelude.{◌≡◌, Some};
 ghost use Rattle.outside.specs.MemFolder.{folder_in};
 ghost use Rattle.outside.specs.PieceLink.{fresh_told, told_of};
 ghost use Rattle.outside.specs.ReadScript.{EachFilled};
 ghost use Rattle.app_trait.specs.FolderMoves.{folder_move};
-ghost use Rattle.conn_loop.specs.Standing.{Represents};
+ghost use Rattle.conn_loop.specs.ConnState.{Represents};
 
 use crate::{Closing, Conn, End, Scratch, Step, Supply};
 use app_trait::{App, FolderApp};
@@ -40,7 +40,8 @@ struct Outcome {
     waits: u64,
 }
 
-/// Brings a connection on until it wants something of its link or is over. Each file that it wants is supplied.
+/// Brings a connection on until it wants something of its link or is over. Each file
+/// that it wants is supplied.
 fn brought_on<L: Link, F: Files, C: Clock>(
     alloc: Global,
     conn: &mut Conn<F>,
@@ -125,7 +126,7 @@ fn two_runs<K: Place>(
     })
 }
 
-/// So many letters, which repeat after a prime number of them.
+/// This many letters, which repeat after a prime number of them.
 fn letters(alloc: Global, count: u32) -> Result<Vec<u8>, AllocError> {
     let mut all = Vec::new(alloc);
     for k in 0..count {

@@ -1,5 +1,4 @@
 pub mod Lists
-pub mod Grown
 pub mod Shown
 pub mod Weighs
 pub mod Within

@@ -1,24 +1,10 @@
--- Beginnings of lists, and lists that may be told.
+-- Lists that may be told.
 use Rattle.std.proofs.Common.{◌≡◌, List, [], ◌++◌, sym, ap, ◌∙◌}
 use Rattle.std.specs.Prelude.{Option, Some, None}
 use Rattle.std.proofs.lemmas.List.{append_assoc, append-nil}
-use mathlib.Core.List.{IsPrefix}
 use Rattle.dispatcher.specs.Told.{Gains}
 
 module _ {A : Type 0} where
-  pub begins_same : (xs : List A) → IsPrefix xs xs
-  begins_same xs = ([], append-nil xs)
-
-  pub begins_then : (xs ys zs : List A) → IsPrefix xs ys → IsPrefix ys zs → IsPrefix xs zs
-  begins_then xs ys zs p q = (p.0 ++ q.0, sym (append_assoc xs p.0 q.0) ∙ (ap (λ (l : List A). l ++ q.0) p.1 ∙ q.1))
-
-  -- a list that goes on in two pieces
-  pub begins_two : (xs ys zs ws : List A) → ws ≡ (xs ++ ys) ++ zs → IsPrefix xs ws
-  begins_two xs ys zs ws e = (ys ++ zs, sym (append_assoc xs ys zs) ∙ sym e)
-
-  pub begins_one : (xs zs ws : List A) → ws ≡ xs ++ zs → IsPrefix xs ws
-  begins_one xs zs ws e = (zs, sym e)
-
   pub gains_none : (o : Option (List A)) → Gains o o []
   gains_none None = tt
   gains_none (Some l) = sym (append-nil l)

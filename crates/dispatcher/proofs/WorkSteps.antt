@@ -21,32 +21,40 @@ use Rattle.dispatcher.specs.Told.{Gains}
 use Rattle.dispatcher.specs.Runs.{RunMade}
 use Rattle.dispatcher.specs.Work.{HasWorked}
 use Rattle.dispatcher.proofs.Lists.{gains_none, gains_as}
-use Rattle.dispatcher.proofs.Grown.{all_grown_same, entered_grown, spent_grown, run_grown}
-use Rattle.dispatcher.proofs.Shown.{shows_same, shows_entered, shows_nothing, shows_spent, of_stripe_here, of_stripe_there, run_fires_none, run_reports_none}
+use Rattle.dispatcher.specs.Laws.{all_grown_same, entered_grown, spent_grown, run_grown}
+use Rattle.dispatcher.proofs.Shown.{shows_same, shows_entered, shows_nothing, shows_spent, of_stripe_here}
+use Rattle.dispatcher.proofs.Shown.{of_stripe_there, run_fires_none, run_reports_none}
 use Rattle.dispatcher.proofs.Works.{work, RunKeys}
 
 module _ {X P : Type 0} (meaning : RunnerMeaning X P) (same : (x : X) → meaning.keeps x x) where
   -- an event was dispatched, and what it ran is to be run
-  pub fire_step : (v w : MgrView) (x : X) (e : EventName) (rs : List FiredKey) (n : Option EventName) → EnteredAt (stripe_of e.opening.fd) (Entries.Dispatch e (Dispatches.Ran rs n)) v w → RunKeys meaning 0 (work v [] []) x (work w (firings e.opening rs) []) x
-  fire_step v w x e rs n a = let s = stripe_of e.opening.fd in let t : Entry = Entries.Dispatch e (Dispatches.Ran rs n) in (
-    record {
-      fired = firings e.opening rs;
-      ran = [];
-      reported = [];
-      grown = entered_grown s t v w a;
-      shows_fired = shows_entered fired_by s t v w a (of_stripe_here e.opening rs) (λ k ne. of_stripe_there e.opening k rs ne);
-      in_order = refl;
-      shows_reported = shows_nothing reported_by s t v w a refl;
-      each_once = refl;
-      gains_runs = gains_none (meaning.runs x);
-      gains_shuts = gains_none (meaning.shuts x);
-      kept = same x;
-    },
-    refl,
-  )
+  pub fire_step : (v w : MgrView) (x : X) (e : EventName) (rs : List FiredKey) (n : Option EventName)
+      → EnteredAt (stripe_of e.opening.fd) (Entries.Dispatch e (Dispatches.Ran rs n)) v w
+      → RunKeys meaning 0 (work v [] []) x (work w (firings e.opening rs) []) x
+  fire_step v w x e rs n a =
+      let s = stripe_of e.opening.fd in
+      let t : Entry = Entries.Dispatch e (Dispatches.Ran rs n) in (
+        record {
+          fired = firings e.opening rs;
+          ran = [];
+          reported = [];
+          grown = entered_grown s t v w a;
+          shows_fired =
+              shows_entered fired_by s t v w a (of_stripe_here e.opening rs)
+              (λ k ne. of_stripe_there e.opening k rs ne);
+          in_order = refl;
+          shows_reported = shows_nothing reported_by s t v w a refl;
+          each_once = refl;
+          gains_runs = gains_none (meaning.runs x);
+          gains_shuts = gains_none (meaning.shuts x);
+          kept = same x;
+        },
+        refl,
+      )
 
   -- a call was entered that ran nothing and reported nothing
-  pub idle_step : (v w : MgrView) (x : X) (ps : List Report) (s : ℕ) (t : Entry) → EnteredAt s t v w → fired_by t ≡ [] → reported_by t ≡ [] → RunKeys meaning 0 (work v [] ps) x (work w [] ps) x
+  pub idle_step : (v w : MgrView) (x : X) (ps : List Report) (s : ℕ) (t : Entry) → EnteredAt s t v w
+      → fired_by t ≡ [] → reported_by t ≡ [] → RunKeys meaning 0 (work v [] ps) x (work w [] ps) x
   idle_step v w x ps s t a f r = (
     record {
       fired = [];
@@ -65,7 +73,8 @@ module _ {X P : Type 0} (meaning : RunnerMeaning X P) (same : (x : X) → meanin
   )
 
   -- no call was entered
-  pub spent_step : (v w : MgrView) (x : X) (ps : List Report) (s : ℕ) → SpentAt s v w → RunKeys meaning 0 (work v [] ps) x (work w [] ps) x
+  pub spent_step : (v w : MgrView) (x : X) (ps : List Report) (s : ℕ) → SpentAt s v w
+      → RunKeys meaning 0 (work v [] ps) x (work w [] ps) x
   spent_step v w x ps s a = (
     record {
       fired = [];
@@ -84,27 +93,35 @@ module _ {X P : Type 0} (meaning : RunnerMeaning X P) (same : (x : X) → meanin
   )
 
   -- a pair was reported
-  pub report_step : (v w : MgrView) (x : X) (o : Opening) (ds : Dirs) (r : ReportOutcome) → EnteredAt (stripe_of o.fd) (Entries.Report o ds r) v w → RunKeys meaning 0 (work v [] ((o, ds) ∷ [])) x (work w [] []) x
-  report_step v w x o ds r a = let s = stripe_of o.fd in let t : Entry = Entries.Report o ds r in (
-    record {
-      fired = [];
-      ran = [];
-      reported = (o, ds) ∷ [];
-      grown = entered_grown s t v w a;
-      shows_fired = shows_nothing fired_by s t v w a refl;
-      in_order = refl;
-      shows_reported = shows_entered reported_by s t v w a (of_stripe_here o (ds ∷ [])) (λ k ne. of_stripe_there o k (ds ∷ []) ne);
-      each_once = refl;
-      gains_runs = gains_none (meaning.runs x);
-      gains_shuts = gains_none (meaning.shuts x);
-      kept = same x;
-    },
-    refl,
-  )
+  pub report_step : (v w : MgrView) (x : X) (o : Opening) (ds : Dirs) (r : ReportOutcome)
+      → EnteredAt (stripe_of o.fd) (Entries.Report o ds r) v w
+      → RunKeys meaning 0 (work v [] ((o, ds) ∷ [])) x (work w [] []) x
+  report_step v w x o ds r a =
+      let s = stripe_of o.fd in
+      let t : Entry = Entries.Report o ds r in (
+        record {
+          fired = [];
+          ran = [];
+          reported = (o, ds) ∷ [];
+          grown = entered_grown s t v w a;
+          shows_fired = shows_nothing fired_by s t v w a refl;
+          in_order = refl;
+          shows_reported =
+              shows_entered reported_by s t v w a (of_stripe_here o (ds ∷ []))
+              (λ k ne. of_stripe_there o k (ds ∷ []) ne);
+          each_once = refl;
+          gains_runs = gains_none (meaning.runs x);
+          gains_shuts = gains_none (meaning.shuts x);
+          kept = same x;
+        },
+        refl,
+      )
 
 module _ {X P : Type 0} (meaning : RunnerMeaning X P) where
   -- the first of what fired was run
-  pub run_step : (v w : MgrView) (x y : X) (f : Firing) (fs : List Firing) (r : AfterRun) → RunMade v r w → Gains (meaning.runs x) (meaning.runs y) (f.1.key ∷ []) → meaning.shuts y ≡ meaning.shuts x → meaning.keeps x y → RunKeys meaning 1 (work v (f ∷ fs) []) x (work w fs []) y
+  pub run_step : (v w : MgrView) (x y : X) (f : Firing) (fs : List Firing) (r : AfterRun) → RunMade v r w
+      → Gains (meaning.runs x) (meaning.runs y) (f.1.key ∷ []) → meaning.shuts y ≡ meaning.shuts x
+      → meaning.keeps x y → RunKeys meaning 1 (work v (f ∷ fs) []) x (work w fs []) y
   run_step v w x y f fs r k gains stay kept = (
     record {
       fired = [];
@@ -123,7 +140,9 @@ module _ {X P : Type 0} (meaning : RunnerMeaning X P) where
   )
 
   -- the jobs of what fired were shut
-  pub shut_step : (v : MgrView) (x y : X) (back : List Firing) (shut : List Key) → meaning.runs y ≡ meaning.runs x → Gains (meaning.shuts x) (meaning.shuts y) shut → meaning.keeps x y → HasWorked meaning shut (work v back []) x (work v back []) y
+  pub shut_step : (v : MgrView) (x y : X) (back : List Firing) (shut : List Key)
+      → meaning.runs y ≡ meaning.runs x → Gains (meaning.shuts x) (meaning.shuts y) shut → meaning.keeps x y
+      → HasWorked meaning shut (work v back []) x (work v back []) y
   shut_step v x y back shut stay gains kept = record {
     fired = [];
     ran = [];
@@ -139,7 +158,9 @@ module _ {X P : Type 0} (meaning : RunnerMeaning X P) where
   }
 
   -- the lent poller polled
-  pub poll_step : (v : MgrView) (x y : X) (ps : List Report) → meaning.runs y ≡ meaning.runs x → meaning.shuts y ≡ meaning.shuts x → meaning.keeps x y → RunKeys meaning 0 (work v [] ps) x (work v [] ps) y
+  pub poll_step : (v : MgrView) (x y : X) (ps : List Report) → meaning.runs y ≡ meaning.runs x
+      → meaning.shuts y ≡ meaning.shuts x → meaning.keeps x y
+      → RunKeys meaning 0 (work v [] ps) x (work v [] ps) y
   poll_step v x y ps stay stay' kept = (
     record {
       fired = [];

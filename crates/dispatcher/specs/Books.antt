@@ -1,5 +1,7 @@
--- To be believed: the account of events, where each came from and where it went: what was got and what was held before is what was put, what was dispatched and what is held after.
--- It is kept in weights. With 1 for one event and 0 for the others a weight counts, so an equation of weights that holds for every weight is one of events counted with repeats, in whatever order they come.
+-- To be believed: the account of events, where each came from and where it went: what was got and what was
+-- held before is what was put, what was dispatched and what is held after.
+-- It is kept in weights. With 1 for one event and 0 for the others a weight counts, so an equation of weights
+-- that holds for every weight is one of events counted with repeats, in whatever order they come.
 use Rattle.std.specs.Prelude.{◌≡◌, ℕ, ◌+◌, ◌≤◌, ◌⊎◌, List, [], ◌++◌, length}
 use mathlib.Core.List.{IsPrefix}
 use Rattle.reg_keys.specs.declared.event.EventName.{EventName}
@@ -14,7 +16,8 @@ use Rattle.dispatcher.specs.Entries.{named_by, dispatched_by}
 use Rattle.event_mgr.specs.Manager.{MgrView}
 use Rattle.dispatcher.specs.Stripes.{HasGrown, weigh_shown}
 
--- A dispatcher's book: what its passes know of the manager and of the queue, and the events in its hand. Within a turn it also has events that are to be put, and one that is to be dispatched next
+-- A dispatcher's book: what its passes know of the manager and of the queue, and the events in its hand.
+-- Within a turn it also has events that are to be put, and one that is to be dispatched next
 pub record Book : Type 0 where
   pub mgr : MgrView
   pub queue : View Move
@@ -42,19 +45,27 @@ held weight book = weigh weight book.hand + weigh weight book.loose + weigh weig
 abbrev pub placed : (EventName → ℕ) → Book → ℕ
 placed weight book = weigh_put weight (own_entries book.queue) + dispatched weight book + held weight book
 
--- From one book to another each event that was got, and each that was held before, was put, dispatched or is held, as often as it was got: what was got in between is what came to be placed
+-- From one book to another each event that was got, and each that was held before, was put, dispatched or is
+-- held, as often as it was got: what was got in between is what came to be placed
 abbrev pub IsBalanced : Book → Book → Type 0
-IsBalanced before after = (weight : EventName → ℕ) → got weight before + placed weight after ≡ placed weight before + got weight after
+IsBalanced before after =
+    (weight : EventName → ℕ)
+    → got weight before + placed weight after ≡ placed weight before + got weight after
 
 -- each event that was taken, and each that was to be dispatched, was dispatched or is to be
 abbrev pub DispatchesTaken : Book → Book → Type 0
-DispatchesTaken before after = (weight : EventName → ℕ) → (taken weight after + weigh weight before.next) + dispatched weight before ≤ (dispatched weight after + weigh weight after.next) + taken weight before
+DispatchesTaken before after =
+    (weight : EventName → ℕ) → (taken weight after + weigh weight before.next) + dispatched weight before
+    ≤ (dispatched weight after + weigh weight after.next) + taken weight before
 
 -- no other event was dispatched
 abbrev pub DispatchesNoOther : Book → Book → Type 0
-DispatchesNoOther before after = (weight : EventName → ℕ) → (taken weight after + weigh weight before.next) + dispatched weight before ≡ (dispatched weight after + weigh weight after.next) + taken weight before
+DispatchesNoOther before after =
+    (weight : EventName → ℕ) → (taken weight after + weigh weight before.next) + dispatched weight before
+    ≡ (dispatched weight after + weigh weight after.next) + taken weight before
 
--- The queue was at some step between the two views as `P` says. Its history at that step begins with what the pass had seen before, and has no moves of the pass's own but those that it has after
+-- The queue was at some step between the two views as `P` says. Its history at that step begins with what the
+-- pass had seen before, and has no moves of the pass's own but those that it has after
 pub record WasWithin (capacity : ℕ) (P : List EventName → Type 0) (v w : View Move) : Type 0 where
   pub log : QueueLog
   pub begins : IsPrefix v.seen log
@@ -79,7 +90,8 @@ pub record PutsAll (before after : Book) : Type 0 where
   pub hand : IsLeftOf before.hand after.hand
   pub others : DispatchesNoOther before after
 
--- From one book to another nothing is lost and nothing is there twice. What was taken from the queue was dispatched. Every other event was put, but where the queue was full at a step in between
+-- From one book to another nothing is lost and nothing is there twice. What was taken from the queue was
+-- dispatched. Every other event was put, but where the queue was full at a step in between
 pub record IsAccounted (capacity : ℕ) (before after : Book) : Type 0 where
   pub balanced : IsBalanced before after
   pub takes : DispatchesTaken before after

@@ -13,7 +13,8 @@ use Rattle.stripe_table.specs.declared.calls.DispatchReply.TheVariants.{Ran}
 use Rattle.stripe_table.specs.Calls.{kind_of_job, fired_key}
 use Rattle.dispatcher.specs.Entries.{Firing, firings}
 
--- jobs that fired and are still to be run, in order: each with the opening of the event that fired it, and with its key, its direction, the marks of that moment and its tag
+-- jobs that fired and are still to be run, in order: each with the opening of the event that fired it, and
+-- with its key, its direction, the marks of that moment and its tag
 abbrev pub Jobs : Type 0
 Jobs = List Firing
 
@@ -50,7 +51,7 @@ job_keys_of [] = []
 job_keys_of (f ∷ fs) = keys_of (job_of f f.1.kind) ++ job_keys_of fs
 
 module _ {T : Type 0} (tag : T → List (List ℕ)) where
-  -- the jobs that are to be run after a dispatch: those before, and behind them those that it fired
+  -- the jobs that are to be run after a dispatch: those before, and after them those that it fired
   abbrev pub with_fired : EventName → DispatchReply T → Jobs → Jobs
   with_fired x (Ran list e) jobs = jobs ++ jobs_of (firings x.opening (map (fired_key tag) list))
   with_fired x _ jobs = jobs

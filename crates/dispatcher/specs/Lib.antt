@@ -8,3 +8,4 @@ pub mod Meanings
 pub mod Runs
 pub mod Enqueue
 pub mod Turns
+pub mod Laws

@@ -46,7 +46,8 @@ pub record RunsAt (v w : View Entry) : Type 0 where
   pub own : own_entries w ≡ own_entries v ++ made
   pub calls : AreOfRun made
 
--- Calls were made that a run may make, one after another: no report and no dispatch is among them, and these are exactly the events that they named
+-- Calls were made that a run may make, one after another: no report and no dispatch is among them, and these
+-- are exactly the events that they named
 pub record HasMadeCalls (v : MgrView) (events : List EventName) (w : MgrView) : Type 0 where
   pub stripes : Each RunsAt v.stripes w.stripes
   pub numbers : HasGrown v.numbers w.numbers
@@ -61,21 +62,28 @@ abbrev pub named_by_register : {T : Type 0} → RegisterReply T → List EventNa
 named_by_register (Waits key e) = option_to_list e
 named_by_register _ = []
 
--- What the calls that a run may make come to: no call at all, each call by itself, and several one after another
+-- What the calls that a run may make come to: no call at all, each call by itself, and
+-- several one after another
 pub record CallsOfRuns {T : Type 0} (tag : T → List (List ℕ)) : Type 0 where
   pub none : (v : MgrView) → HasMadeCalls v [] v
-  pub several : (u : MgrView) (xs : List EventName) (v : MgrView) (ys : List EventName) (w : MgrView) → HasMadeCalls u xs v → HasMadeCalls v ys w → HasMadeCalls u (xs ++ ys) w
+  pub several : (u : MgrView) (xs : List EventName) (v : MgrView) (ys : List EventName) (w : MgrView)
+      → HasMadeCalls u xs v → HasMadeCalls v ys w → HasMadeCalls u (xs ++ ys) w
   pub opened : (v : MgrView) (r : OpenOut) (w : MgrView) → HasOpened v r w → HasMadeCalls v [] w
-  pub registered : (o : Opening) (d : Dir) (m : Option ℕ) (load : Payload T) (v : MgrView) (r : RegisterReply T) (w : MgrView) → HasRegistered tag o d m load v r w → HasMadeCalls v (named_by_register r) w
-  pub withdrawn : (key : Key) (v : MgrView) (r : WithdrawOut T) (w : MgrView) → HasWithdrawn tag key v r w → HasMadeCalls v [] w
+  pub registered : (o : Opening) (d : Dir) (m : Option ℕ)
+      (load : Payload T) (v : MgrView) (r : RegisterReply T) (w : MgrView)
+      → HasRegistered tag o d m load v r w → HasMadeCalls v (named_by_register r) w
+  pub withdrawn : (key : Key) (v : MgrView) (r : WithdrawOut T) (w : MgrView)
+      → HasWithdrawn tag key v r w → HasMadeCalls v [] w
   pub asked : (key : Key) (v : MgrView) (r : AskOut) (w : MgrView) → HasAsked key v r w → HasMadeCalls v [] w
-  pub closed : (o : Opening) (v : MgrView) (r : CloseOut T) (w : MgrView) → HasClosed tag o v r w → HasMadeCalls v [] w
+  pub closed : (o : Opening) (v : MgrView) (r : CloseOut T) (w : MgrView) → HasClosed tag o v r w
+      → HasMadeCalls v [] w
 
 -- a run gave no events
 abbrev pub GivesNoEvents : AfterRun → Type 0
 GivesNoEvents result = events_of (pair_of result) ≡ []
 
--- what a poller tells of its polls is as it was: the pairs that they gave, and their faults, with those of adding listeners
+-- what a poller tells of its polls is as it was: the pairs that they gave, and their faults,
+-- with those of adding listeners
 pub record LeavesPolls {P : Type 0} (told : PollerMeaning P) (x y : P) : Type 0 where
   pub same_polled : told.polled y ≡ told.polled x
   pub same_faults : (told.faults y).polls ≡ (told.faults x).polls

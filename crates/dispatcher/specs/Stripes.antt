@@ -1,4 +1,5 @@
--- To be believed: what is said of the 32 stripes together. There is one history for each stripe and none for all, so what has an order has it stripe by stripe, and everything else is said in sums.
+-- To be believed: what is said of the 32 stripes together. There is one history for each stripe and none for
+-- all, so what has an order has it stripe by stripe, and everything else is said in sums.
 use Rattle.std.specs.Prelude.{◌≡◌, ℕ, ◌==◌, List, [], ◌∷◌, ◌++◌, filter, true}
 use mathlib.Core.List.{IsPrefix}
 use Rattle.reg_keys.specs.declared.opening.Opening.{Opening}
@@ -18,7 +19,8 @@ Each R [] [] = Unit {0}
 Each R (v ∷ vs) (w ∷ ws) = R v w × Each R vs ws
 Each R _ _ = ⊥
 
--- the pass has seen what it had seen, and maybe more, its own entries are those that it had, and maybe more, and where it has met a spent cell it doesn't forget that
+-- the pass has seen what it had seen, and maybe more, its own entries are those that it had, and maybe more,
+-- and where it has met a spent cell it doesn't forget that
 pub record HasGrown {E : Type 0} (v w : View E) : Type 0 where
   pub name : w.name ≡ v.name
   pub classes : w.classes ≡ v.classes
@@ -41,8 +43,9 @@ abbrev pub of_stripe : {X : Type 0} → ℕ → List (Opening × X) → List (Op
 of_stripe s xs = filter (λ x. stripe_of x.0.fd == s) xs
 
 -- the own entries that the pass gained show these things: at each stripe those of that stripe, in order
-abbrev pub Shows : {X : Type 0} → (Entry → List (Opening × X)) → MgrView → List (Opening × X) → MgrView → Type 0
-Shows show v xs w = (s : ℕ) → shown_in show (own_in s w) ≡ shown_in show (own_in s v) ++ of_stripe s xs
+abbrev pub PassShows : {X : Type 0} → (Entry → List (Opening × X)) → MgrView → List (Opening × X)
+    → MgrView → Type 0
+PassShows show v xs w = (s : ℕ) → shown_in show (own_in s w) ≡ shown_in show (own_in s v) ++ of_stripe s xs
 
 -- what the own entries of all stripes weigh, by the events that they show
 abbrev pub weigh_shown : (Entry → List EventName) → (EventName → ℕ) → MgrView → ℕ

@@ -1,4 +1,5 @@
--- To be believed: lists that something may tell: a poller its pairs, a runner the keys that it was given. What keeps no such list tells none.
+-- To be believed: lists that something may tell: a poller its pairs, a runner the keys that it was given.
+-- What keeps no such list tells none.
 use Rattle.std.specs.Prelude.{◌≡◌, ℕ, List, ◌++◌, Option, None, IfSome, IsSomeAnd}
 use Rattle.reg_keys.specs.declared.registration.Key.{Key}
 

@@ -24,7 +24,7 @@ use std::sync::Wait;
 use stripe_table::{DispatchReply, Fired, FiredList, Load};
 
 /// Runs what fired, in order. The events that a run gave are put or kept before the next one begins. With a
-/// code, the jobs behind the run that stopped went to `shut`.
+/// code, the jobs after the run that stopped went to `shut`.
 fn run_all<T: Load, X: Runner<T>, R: Wait>(
     rt: &R,
     mgr: &EventManager<T>,
@@ -36,12 +36,15 @@ fn run_all<T: Load, X: Runner<T>, R: Wait>(
     requires own { AreOf mgr.now queue.now passes.old }
     requires stop { X.meaning.stop runner.old ≡ None }
     requires room { length passes.old.hand < HAND }
-    requires fits { (o : Opening) × X.meaning.fits runner.old (mgr_view passes.old.mgr) (jobs_of (firings o (map (fired_key T.tag) list))) }
-    ensures leaves { Leaves X.meaning X.Poller.meaning mgr.now queue.now result runner.old passes.new runner.new }
+    requires fits { (o : Opening) × X.meaning.fits runner.old (mgr_view passes.old.mgr)
+        (jobs_of (firings o (map (fired_key T.tag) list))) }
+    ensures leaves { Leaves X.meaning X.Poller.meaning mgr.now queue.now result runner.old
+        passes.new runner.new }
     ensures room { length passes.new.hand < HAND }
     ensures events { IsAccounted (capacity_of queue.now) (book_of passes.old) (book_of passes.new) }
     ensures takes { TakesNone passes.old passes.new }
-    ensures ran { (o : Opening) → HasRunAll X.meaning (firings o (map (fired_key T.tag) list)) passes.old runner.old result passes.new runner.new }
+    ensures ran { (o : Opening) → HasRunAll X.meaning
+        (firings o (map (fired_key T.tag) list)) passes.old runner.old result passes.new runner.new }
 {
     let mut list = list;
     while let Some(mut fired) = list.pop_first() {
@@ -65,13 +68,17 @@ fn run_all<T: Load, X: Runner<T>, R: Wait>(
 
 /// Gives the jobs that are left to `shut`, in order.
 fn shut_all<T: Load, X: Runner<T>>(passes: &DispPass<T>, runner: &mut X, list: FiredList<T>)
-    requires fits { (o : Opening) × X.meaning.fits runner.old (mgr_view passes.now.mgr) (jobs_of (firings o (map (fired_key T.tag) list))) }
+    requires fits { (o : Opening) × X.meaning.fits runner.old (mgr_view passes.now.mgr)
+        (jobs_of (firings o (map (fired_key T.tag) list))) }
     ensures stop { X.meaning.stop runner.new ≡ X.meaning.stop runner.old }
     ensures fits { X.meaning.fits runner.new (mgr_view passes.now.mgr) [] }
     ensures runs { X.meaning.runs runner.new ≡ X.meaning.runs runner.old }
-    ensures shuts { (o : Opening) → Gains (X.meaning.shuts runner.old) (X.meaning.shuts runner.new) (job_keys_of (firings o (map (fired_key T.tag) list))) }
+    ensures shuts { (o : Opening)
+        → Gains (X.meaning.shuts runner.old) (X.meaning.shuts runner.new)
+        (job_keys_of (firings o (map (fired_key T.tag) list))) }
     ensures keeps { X.meaning.keeps runner.old runner.new }
-    ensures poller { LeavesPolls X.Poller.meaning (X.meaning.poller_of runner.old) (X.meaning.poller_of runner.new) }
+    ensures poller { LeavesPolls X.Poller.meaning (X.meaning.poller_of runner.old)
+        (X.meaning.poller_of runner.new) }
 {
     // Lets the proof speak of the passes.
     let _passes = passes;
@@ -101,12 +108,15 @@ pub(crate) fn dispatch<T: Load, X: Runner<T>, R: Wait>(
 ) -> Result<u64, Halt>
     requires ready { IsReady X.meaning mgr.now queue.now passes.old runner.old }
     requires room { length passes.old.hand < HAND }
-    ensures leaves { Leaves X.meaning X.Poller.meaning mgr.now queue.now (code_of_halt result) runner.old passes.new runner.new }
+    ensures leaves { Leaves X.meaning X.Poller.meaning mgr.now queue.now
+        (code_of_halt result) runner.old passes.new runner.new }
     ensures room { IfOk result (λ _. length passes.new.hand < HAND) }
-    ensures went { IfOk result (λ n. GoesOn X.meaning (capacity_of queue.now) n (book_with [] (event ∷ []) passes.old) passes.old runner.old passes.new runner.new) }
+    ensures went { IfOk result (λ n. GoesOn X.meaning (capacity_of queue.now) n
+        (book_with [] (event ∷ []) passes.old) passes.old runner.old passes.new runner.new) }
     ensures takes { IfOk result (λ _. TakesNone passes.old passes.new) }
     ensures few { IfOk result (λ n. n ≤ 4) }
-    ensures halted { IfErr result (λ halt. HasHalted X.meaning [] (event ∷ []) [] passes.old runner.old halt passes.new runner.new) }
+    ensures halted { IfErr result
+        (λ halt. HasHalted X.meaning [] (event ∷ []) [] passes.old runner.old halt passes.new runner.new) }
 {
     // A law of the manager's calls, for the proof: it does nothing when run.
     calls_weigh::<T>();

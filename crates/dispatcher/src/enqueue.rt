@@ -25,7 +25,8 @@ pub(crate) fn put_or_keep<R: Wait>(
 )
     requires { IsOf queue.now pass.old }
     ensures own { IsOf queue.now pass.new }
-    ensures put_or_kept { IsPutOrKept (capacity_of queue.now) event (view_of pass.old) hand.old (view_of pass.new) hand.new }
+    ensures put_or_kept { IsPutOrKept (capacity_of queue.now) event (view_of pass.old) hand.old
+        (view_of pass.new) hand.new }
     ensures room { length hand.old < HAND → length hand.new < HAND }
 {
     let mut event = event;
@@ -55,7 +56,8 @@ pub(crate) fn put_or_keep_any<R: Wait>(
 )
     requires { IsOf queue.now pass.old }
     ensures own { IsOf queue.now pass.new }
-    ensures put_or_kept { IsPutOrKeptAny (capacity_of queue.now) event (view_of pass.old) hand.old (view_of pass.new) hand.new }
+    ensures put_or_kept { IsPutOrKeptAny (capacity_of queue.now) event (view_of pass.old) hand.old
+        (view_of pass.new) hand.new }
     ensures room { length hand.old < HAND → length hand.new < HAND }
 {
     if let Some(event) = event {

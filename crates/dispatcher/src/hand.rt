@@ -46,7 +46,7 @@ impl Hand {
         self.events.len()
     }
 
-    /// Puts an event behind the others. There must be room for it.
+    /// Puts an event after the others. There must be room for it.
     pub fn push(&mut self, event: Event)
         requires { length self.old < HAND }
         ensures { self.new ≡ self.old ++ event ∷ [] }
@@ -56,7 +56,8 @@ impl Hand {
 
     /// Takes the first event.
     pub fn pop_first(&mut self) -> Option<Event>
-        ensures { MatchOption result ((self.old ≡ []) × (self.new ≡ [])) (λ event. self.old ≡ event ∷ self.new) }
+        ensures { MatchOption result ((self.old ≡ []) × (self.new ≡ []))
+            (λ event. self.old ≡ event ∷ self.new) }
     {
         self.events.pop_front()
     }

@@ -55,30 +55,38 @@ pub trait Runner<T: Load> {
     ) -> AfterRun
         requires own { IsOfMgr mgr.now pass.old }
         requires stop { meaning.stop self.old ≡ None }
-        requires fits { (o : Opening) × (rest : Jobs) × meaning.fits self.old (mgr_view pass.old) (job_in T.tag o fired.old ++ rest) }
+        requires fits { (o : Opening) × (rest : Jobs)
+            × meaning.fits self.old (mgr_view pass.old) (job_in T.tag o fired.old ++ rest) }
         ensures own { IsOfMgr mgr.now pass.new }
-        ensures fits { (o : Opening) (rest : Jobs) → meaning.fits self.old (mgr_view pass.old) (job_in T.tag o fired.old ++ rest) → meaning.fits self.new (mgr_view pass.new) rest }
+        ensures fits { (o : Opening) (rest : Jobs)
+            → meaning.fits self.old (mgr_view pass.old) (job_in T.tag o fired.old ++ rest)
+            → meaning.fits self.new (mgr_view pass.new) rest }
         ensures made { RunMade (mgr_view pass.old) result (mgr_view pass.new) }
         ensures flag { IfNone fired.old.job (GivesNoEvents result) }
         ensures stop { meaning.stop self.new ≡ code_of result }
         ensures runs { Gains (meaning.runs self.old) (meaning.runs self.new) (fired.old.key ∷ []) }
         ensures shuts { meaning.shuts self.new ≡ meaning.shuts self.old }
         ensures keeps { meaning.keeps self.old self.new }
-        ensures poller { LeavesPolls Self.Poller.meaning (meaning.poller_of self.old) (meaning.poller_of self.new) };
+        ensures poller { LeavesPolls Self.Poller.meaning (meaning.poller_of self.old)
+            (meaning.poller_of self.new) };
 
     /// Takes a job that fired and isn't run, since the turn ends.
     fn shut(&mut self, key: Key, job: T)
-        requires fits { (v : MgrView) × (rest : Jobs) × (o : Opening) × (d : Dir) × (m : Marks) × meaning.fits self.old v (job_at o key d m (T.tag job) ∷ rest) }
-        ensures fits { (v : MgrView) (rest : Jobs) (o : Opening) (d : Dir) (m : Marks) → meaning.fits self.old v (job_at o key d m (T.tag job) ∷ rest) → meaning.fits self.new v rest }
+        requires fits { (v : MgrView) × (rest : Jobs) × (o : Opening) × (d : Dir) × (m : Marks)
+            × meaning.fits self.old v (job_at o key d m (T.tag job) ∷ rest) }
+        ensures fits { (v : MgrView) (rest : Jobs) (o : Opening) (d : Dir) (m : Marks)
+            → meaning.fits self.old v (job_at o key d m (T.tag job) ∷ rest) → meaning.fits self.new v rest }
         ensures stop { meaning.stop self.new ≡ meaning.stop self.old }
         ensures runs { meaning.runs self.new ≡ meaning.runs self.old }
         ensures shuts { Gains (meaning.shuts self.old) (meaning.shuts self.new) (key ∷ []) }
         ensures keeps { meaning.keeps self.old self.new }
-        ensures poller { LeavesPolls Self.Poller.meaning (meaning.poller_of self.old) (meaning.poller_of self.new) };
+        ensures poller { LeavesPolls Self.Poller.meaning (meaning.poller_of self.old)
+            (meaning.poller_of self.new) };
 
     /// Lends the poller.
     fn poller(&mut self) -> &mut Self::Poller
-        ensures* writes_back { sem 𝓛 (Lends Self.row Self.Poller.row self.entry result (meaning.with_poller self.old)) }
+        ensures* writes_back { sem 𝓛
+            (Lends Self.row Self.Poller.row self.entry result (meaning.with_poller self.old)) }
         ensures value { result.now ≡ meaning.poller_of self.old };
 
     // What a runner owes beside its calls.

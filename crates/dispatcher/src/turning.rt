@@ -54,7 +54,8 @@ pub fn turn<T: Load, X: Runner<T>, R: Wait>(
     ensures own { AreOf mgr.now queue.now passes.new }
     ensures stop { X.meaning.stop runner.new ≡ stop_of result }
     ensures fits { X.meaning.fits runner.new (mgr_view passes.new.mgr) [] }
-    ensures turned { HasTurned X.meaning X.Poller.meaning (capacity_of queue.now) max passes.old runner.old result reports.new passes.new runner.new }
+    ensures turned { HasTurned X.meaning X.Poller.meaning
+        (capacity_of queue.now) max passes.old runner.old result reports.new passes.new runner.new }
 {
     let kept = match empty_hand::<T, X, R>(rt, mgr, queue, passes, runner) {
         Ok(ran) => ran,
@@ -109,12 +110,15 @@ fn put_or_dispatch<T: Load, X: Runner<T>, R: Wait>(
 ) -> Result<u64, Halt>
     requires ready { IsReady X.meaning mgr.now queue.now passes.old runner.old }
     requires room { length passes.old.hand < HAND }
-    ensures leaves { Leaves X.meaning X.Poller.meaning mgr.now queue.now (code_of_halt result) runner.old passes.new runner.new }
+    ensures leaves { Leaves X.meaning X.Poller.meaning mgr.now queue.now
+        (code_of_halt result) runner.old passes.new runner.new }
     ensures room { IfOk result (λ _. length passes.new.hand < HAND) }
-    ensures went { IfOk result (λ n. GoesOn X.meaning (capacity_of queue.now) n (book_with (event ∷ []) [] passes.old) passes.old runner.old passes.new runner.new) }
+    ensures went { IfOk result (λ n. GoesOn X.meaning (capacity_of queue.now) n
+        (book_with (event ∷ []) [] passes.old) passes.old runner.old passes.new runner.new) }
     ensures takes { IfOk result (λ _. TakesNone passes.old passes.new) }
     ensures few { IfOk result (λ n. n ≤ 4) }
-    ensures halted { IfErr result (λ halt. HasHalted X.meaning (event ∷ []) [] [] passes.old runner.old halt passes.new runner.new) }
+    ensures halted { IfErr result
+        (λ halt. HasHalted X.meaning (event ∷ []) [] [] passes.old runner.old halt passes.new runner.new) }
 {
     match queue.put(rt, &mut passes.queue, event) {
         PutOut::Put => Ok(0),
@@ -131,13 +135,18 @@ fn empty_hand<T: Load, X: Runner<T>, R: Wait>(
     runner: &mut X,
 ) -> Result<u64, Halt>
     requires ready { IsReady X.meaning mgr.now queue.now passes.old runner.old }
-    ensures leaves { Leaves X.meaning X.Poller.meaning mgr.now queue.now (code_of_halt result) runner.old passes.new runner.new }
+    ensures leaves { Leaves X.meaning X.Poller.meaning mgr.now queue.now
+        (code_of_halt result) runner.old passes.new runner.new }
     ensures room { IfOk result (λ _. 0 < length passes.old.hand → length passes.new.hand < HAND) }
-    ensures went { IfOk result (λ n. GoesOn X.meaning (capacity_of queue.now) n (book_of passes.old) passes.old runner.old passes.new runner.new) }
-    ensures emptied { IfOk result (λ _. WasFullWithin (capacity_of queue.now) (view_of passes.old.queue) (view_of passes.new.queue) ⊎ (passes.new.hand ≡ [])) }
+    ensures went { IfOk result (λ n. GoesOn X.meaning (capacity_of queue.now) n
+        (book_of passes.old) passes.old runner.old passes.new runner.new) }
+    ensures emptied { IfOk result
+        (λ _. WasFullWithin (capacity_of queue.now) (view_of passes.old.queue) (view_of passes.new.queue)
+        ⊎ (passes.new.hand ≡ [])) }
     ensures takes { IfOk result (λ _. TakesNone passes.old passes.new) }
     ensures few { IfOk result (λ n. n ≤ 4 * HAND) }
-    ensures halted { IfErr result (λ halt. HasHalted X.meaning [] [] [] passes.old runner.old halt passes.new runner.new) }
+    ensures halted { IfErr result
+        (λ halt. HasHalted X.meaning [] [] [] passes.old runner.old halt passes.new runner.new) }
 {
     let mut ran = 0u64;
     for _ in 0..passes.hand.len() {
@@ -162,12 +171,15 @@ fn relieve<T: Load, X: Runner<T>, R: Wait>(
     runner: &mut X,
 ) -> Result<u64, Halt>
     requires ready { IsReady X.meaning mgr.now queue.now passes.old runner.old }
-    ensures leaves { Leaves X.meaning X.Poller.meaning mgr.now queue.now (code_of_halt result) runner.old passes.new runner.new }
+    ensures leaves { Leaves X.meaning X.Poller.meaning mgr.now queue.now
+        (code_of_halt result) runner.old passes.new runner.new }
     ensures room { IfOk result (λ _. length passes.new.hand < HAND) }
-    ensures went { IfOk result (λ n. GoesOn X.meaning (capacity_of queue.now) n (book_of passes.old) passes.old runner.old passes.new runner.new) }
+    ensures went { IfOk result (λ n. GoesOn X.meaning (capacity_of queue.now) n
+        (book_of passes.old) passes.old runner.old passes.new runner.new) }
     ensures takes { IfOk result (λ _. TakesNone passes.old passes.new) }
     ensures few { IfOk result (λ n. n ≤ 4 * HAND) }
-    ensures halted { IfErr result (λ halt. HasHalted X.meaning [] [] [] passes.old runner.old halt passes.new runner.new) }
+    ensures halted { IfErr result
+        (λ halt. HasHalted X.meaning [] [] [] passes.old runner.old halt passes.new runner.new) }
 {
     if passes.hand.len() < KEPT {
         return Ok(0);
@@ -185,12 +197,16 @@ fn take_events<T: Load, X: Runner<T>, R: Wait>(
     max: u32,
 ) -> Result<TurnTally, Halt>
     requires ready { IsReady X.meaning mgr.now queue.now passes.old runner.old }
-    ensures leaves { Leaves X.meaning X.Poller.meaning mgr.now queue.now (code_of_halt result) runner.old passes.new runner.new }
-    ensures went { IfOk result (λ count. GoesOn X.meaning (capacity_of queue.now) count.ran (book_of passes.old) passes.old runner.old passes.new runner.new) }
+    ensures leaves { Leaves X.meaning X.Poller.meaning mgr.now queue.now
+        (code_of_halt result) runner.old passes.new runner.new }
+    ensures went { IfOk result (λ count. GoesOn X.meaning (capacity_of queue.now) count.ran
+        (book_of passes.old) passes.old runner.old passes.new runner.new) }
     ensures takes { IfOk result (λ _. EventsTaken (capacity_of queue.now) max passes.old passes.new) }
-    ensures counted { IfOk result (λ count. taken (λ _. 1) (book_of passes.new) ≡ taken (λ _. 1) (book_of passes.old) + count.handled) }
+    ensures counted { IfOk result
+        (λ count. taken (λ _. 1) (book_of passes.new) ≡ taken (λ _. 1) (book_of passes.old) + count.handled) }
     ensures few { IfOk result (λ count. count.ran ≤ (4 * HAND + 4) * max) }
-    ensures halted { IfErr result (λ halt. HasHalted X.meaning [] [] [] passes.old runner.old halt passes.new runner.new) }
+    ensures halted { IfErr result
+        (λ halt. HasHalted X.meaning [] [] [] passes.old runner.old halt passes.new runner.new) }
 {
     let mut count = TurnTally { handled: 0, ran: 0 };
     for _ in 0..max {
@@ -226,7 +242,8 @@ fn report_one<T: Load, X: Runner<T>, R: Wait>(
     ensures own { AreOf mgr.now queue.now passes.new }
     ensures fits { X.meaning.fits runner.now (mgr_view passes.new.mgr) [] }
     ensures takes { TakesNone passes.old passes.new }
-    ensures reported { HasReportedOne X.meaning (capacity_of queue.now) (opening, dirs) passes.old runner.now result passes.new }
+    ensures reported { HasReportedOne X.meaning (capacity_of queue.now)
+        (opening, dirs) passes.old runner.now result passes.new }
 {
     // Lets the proof speak of the runner.
     let _runner = runner;
@@ -252,12 +269,16 @@ fn report_all<T: Load, X: Runner<T>, R: Wait>(
     reports: &mut Reports,
 ) -> Result<TurnTally, Halt>
     requires ready { IsReady X.meaning mgr.now queue.now passes.old runner.old }
-    ensures leaves { Leaves X.meaning X.Poller.meaning mgr.now queue.now (code_of_halt result) runner.old passes.new runner.new }
-    ensures events { IfOk result (λ _. IsAccounted (capacity_of queue.now) (book_of passes.old) (book_of passes.new)) }
+    ensures leaves { Leaves X.meaning X.Poller.meaning mgr.now queue.now
+        (code_of_halt result) runner.old passes.new runner.new }
+    ensures events { IfOk result
+        (λ _. IsAccounted (capacity_of queue.now) (book_of passes.old) (book_of passes.new)) }
     ensures takes { IfOk result (λ _. TakesNone passes.old passes.new) }
     ensures few { IfOk result (λ count. count.ran ≤ 4 * HAND * REPORTS) }
-    ensures ran { IfOk result (λ count. HasReportedAll X.meaning count passes.old runner.old reports.old passes.new runner.new reports.new) }
-    ensures halted { IfErr result (λ halt. HasLeftReports X.meaning passes.old runner.old reports.old halt passes.new runner.new reports.new) }
+    ensures ran { IfOk result (λ count.
+        HasReportedAll X.meaning count passes.old runner.old reports.old passes.new runner.new reports.new) }
+    ensures halted { IfErr result (λ halt.
+        HasLeftReports X.meaning passes.old runner.old reports.old halt passes.new runner.new reports.new) }
 {
     // Makes the bound on the reports known to the proof.
     let _most = reports.len();

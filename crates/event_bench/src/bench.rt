@@ -1,4 +1,4 @@
-// The threads, each with a pass of one manager and an opening on a stripe of its own.
+//! The threads, each with a pass of one manager and an opening on a stripe of its own.
 ghost use Rattle.std.specs.Prelude.{IfOk, All};
 ghost use Rattle.event_mgr.specs.Manager.{IsOfMgr};
 

@@ -1,4 +1,4 @@
-// Jobs of two sizes. What they hold is a number, by which nothing is done.
+//! Jobs of two sizes. What they hold is a number, by which nothing is done.
 ghost use Rattle.std.specs.Prelude.{[], ◌∷◌};
 
 use stripe_table::Load;

@@ -1,4 +1,4 @@
-// The rounds of one thread, on an opening of its own.
+//! The rounds of one thread, on an opening of its own.
 ghost use Rattle.event_mgr.specs.Manager.{IsOfMgr};
 
 use crate::job::Job;
@@ -8,7 +8,8 @@ use reg_keys::{Dir, Dirs, Event, Opening};
 use std::sync::Wait;
 use stripe_table::{DispatchReply, Payload, RegisterReply, ReportReply};
 
-/// A thread's pass, its opening, the mark that it last saw there, and how many rounds came out as they should.
+/// A thread's pass, its opening, the mark that it last saw there, and how many rounds
+/// came out as they should.
 #[derive(Drop)]
 pub(crate) struct Row<T> {
     pub pass: MgrPass<T>,

@@ -1,5 +1,5 @@
-//! The program `event_example`: the way of an event, from a report to the run of a job and back, over a net in
-//! memory.
+//! The program `event_example`: the way of an event, from a report to the run of a job
+//! and back, over a net in memory.
 //!
 //! A connection brings `hello, ` and then `world`, and ends. Whoever reads it goes by three rules:
 //!
@@ -8,8 +8,8 @@
 //! 3. Register again, with the mark that the run was given. It is the number of that report; one that came
 //!    since has a later number, so the job runs at once, and no report is lost.
 //!
-//! A dispatcher takes the turns. In a turn it runs the jobs that are due, polls once, and reports what the poll
-//! gave. A report of a connection whose job waits makes it due in the next turn.
+//! A dispatcher takes the turns. In a turn it runs the jobs that are due, polls once, and reports what the
+//! poll gave. A report of a connection whose job waits makes it due in the next turn.
 #![tactic(auto)]
 
 // What reads the connection: its job, and what a run does with it.

@@ -26,9 +26,9 @@ impl Load for Job {
 /// What a run came to.
 #[derive(Clone, Copy)]
 pub(crate) enum Went {
-    /// So many bytes were read until `NotYet`, and the job waits with this mark.
+    /// This many bytes were read until `NotYet`, and the job waits with this mark.
     On { read: usize, mark: u64 },
-    /// So many bytes were read to the end, and the opening is closed.
+    /// This many bytes were read to the end, and the opening is closed.
     ToTheEnd { read: usize },
 }
 

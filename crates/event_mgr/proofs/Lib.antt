@@ -8,7 +8,6 @@ pub mod PlainNumbers
 pub mod RowLemmas
 pub mod Seen
 pub mod StripeLemmas
-pub mod Weights
 pub mod BothWeights
 pub mod Sums
 mod Shared

@@ -10,16 +10,22 @@ use Rattle.event_mgr.specs.Numbers.{is_among, out_after}
 use Rattle.event_mgr.proofs.NumbersOut.{among_without}
 
 -- after a number was given back the others are out as before
-after_back : (call : NumbersCall) (reply : NumbersReply) (ms : List ℕ) (back n : ℕ) → call ≡ GiveBack back → reply ≡ Back
+after_back : (call : NumbersCall) (reply : NumbersReply) (ms : List ℕ) (back n : ℕ)
+    → call ≡ GiveBack back → reply ≡ Back
     → is_among (out_after call reply ms) n ≡ (not (back == n) && is_among ms n)
 after_back call reply ms back n e f =
     subst (λ c. is_among (out_after c reply ms) n ≡ (not (back == n) && is_among ms n)) (sym e)
-    (subst (λ r. is_among (out_after (GiveBack back) r ms) n ≡ (not (back == n) && is_among ms n)) (sym f) (among_without back n ms))
+    (subst (λ r. is_among (out_after (GiveBack back) r ms) n ≡ (not (back == n) && is_among ms n))
+    (sym f) (among_without back n ms))
 
-pub other_back : (call : NumbersCall) (reply : NumbersReply) (ms : List ℕ) (back n : ℕ) → call ≡ GiveBack back → reply ≡ Back
+pub other_back : (call : NumbersCall) (reply : NumbersReply) (ms : List ℕ) (back n : ℕ)
+    → call ≡ GiveBack back → reply ≡ Back
     → (back ≡ n → ⊥) → is_among (out_after call reply ms) n ≡ is_among ms n
-other_back call reply ms back n e f apart = after_back call reply ms back n e f ∙ ap (λ b. not b && is_among ms n) (ne_eqb back n apart)
+other_back call reply ms back n e f apart =
+    after_back call reply ms back n e f ∙ ap (λ b. not b && is_among ms n) (ne_eqb back n apart)
 
-pub same_back : (call : NumbersCall) (reply : NumbersReply) (ms : List ℕ) (back n : ℕ) → call ≡ GiveBack back → reply ≡ Back
+pub same_back : (call : NumbersCall) (reply : NumbersReply) (ms : List ℕ) (back n : ℕ)
+    → call ≡ GiveBack back → reply ≡ Back
     → back ≡ n → is_among (out_after call reply ms) n ≡ false
-same_back call reply ms back n e f same = after_back call reply ms back n e f ∙ ap (λ b. not b && is_among ms n) (eq-eqb back n same)
+same_back call reply ms back n e f same =
+    after_back call reply ms back n e f ∙ ap (λ b. not b && is_among ms n) (eq-eqb back n same)

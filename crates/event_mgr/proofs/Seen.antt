@@ -10,7 +10,7 @@ use Rattle.turn_cell.specs.View.{seat_of}
 use Rattle.event_mgr.specs.Stripes.{past_in, StripeEntered}
 use Rattle.event_mgr.specs.Manager.{MgrView, IsLawful, EnteredAt, seen_in, seen_by}
 use Rattle.event_mgr.proofs.StripeLemmas.{past_in-more}
-use Rattle.event_mgr.proofs.Weights.{stripe_after}
+use Rattle.event_mgr.specs.Laws.{stripe_after}
 
 -- it is legal, at any time
 pub legal_seen : (v : MgrView) → IsLawful v → (s : ℕ) → IsLegal s 1 (past_in (seen_in s v))
@@ -21,10 +21,19 @@ legal_seen v l s = by_place (slice_get v.stripes s) refl
     by_place (Some x) is = l.legal s x is
 
 -- it goes on from what was seen, and ends with the entry that was made
-pub entered_seen : (s : ℕ) (e : Entry) (v w : MgrView) → EnteredAt s e v w → (between : Log Entry) × (n : ℕ) × (seen_in s w ≡ (seen_in s v ++ between) ++ (n, e) ∷ [])
-entered_seen s e v w a = let k = a.stripe.moved in
-    (k.between, seat_of a.stripe.before, ap seen_by (stripe_after s (StripeEntered s e) v w a) ∙ (k.seen ∙ ap (λ (l : Log Entry). (l ++ k.between) ++ (seat_of a.stripe.before, e) ∷ []) (sym (ap seen_by a.stripe.there))))
+pub entered_seen : (s : ℕ) (e : Entry) (v w : MgrView) → EnteredAt s e v w
+    → (between : Log Entry) × (n : ℕ) × (seen_in s w ≡ (seen_in s v ++ between) ++ (n, e) ∷ [])
+entered_seen s e v w a = let k = a.stripe.moved in (
+  k.between,
+  seat_of a.stripe.before,
+  ap seen_by (stripe_after s (StripeEntered s e) v w a)
+      ∙ (k.seen ∙ ap (λ (l : Log Entry). (l ++ k.between) ++ (seat_of a.stripe.before, e) ∷ [])
+      (sym (ap seen_by a.stripe.there))),
+)
 
 -- so the entry is one of the past
 pub entered_is_in : (s : ℕ) (e : Entry) (v w : MgrView) → EnteredAt s e v w → IsIn e (past_in (seen_in s w))
-entered_is_in s e v w a = let h = entered_seen s e v w a in subst (λ (l : List Entry). IsIn e l) (sym (ap past_in h.2 ∙ past_in-more (seen_in s v ++ h.0) h.1 e)) (inl refl)
+entered_is_in s e v w a =
+    let h = entered_seen s e v w a in
+    subst (λ (l : List Entry). IsIn e l) (sym (ap past_in h.2 ∙ past_in-more (seen_in s v ++ h.0) h.1 e))
+    (inl refl)

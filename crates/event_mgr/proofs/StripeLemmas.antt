@@ -1,19 +1,20 @@
--- What the manager tells of an entry, out of what the turn cell tells: of the part no more than its name, and that the history is legal under it.
+-- What the manager tells of an entry, out of what the turn cell tells: of the part no more than its name, and
+-- that the history is legal under it.
 use Rattle.std.proofs.Common.{◌≡◌, ℕ, ◌+◌, List, [], ◌∷◌, ◌++◌, map, refl, ap, ◌∙◌, subst}
 use Rattle.std.proofs.lemmas.List.{map-append, reverse-append}
 use Rattle.reg_keys.specs.declared.entry.Entry.{Entry}
 use Rattle.std.specs.Prelude.{reverse}
 use Rattle.reg_keys.specs.Histories.{past_of}
 use Rattle.reg_keys.specs.Replies.{IsLegal}
-use Rattle.reg_keys.proofs.Pasts.{past_of-more}
+use Rattle.reg_keys.specs.Laws.{past_of-more}
 use Rattle.turn_cell.specs.declared.view.View.{View}
 use Rattle.turn_cell.specs.History.{Log}
 use Rattle.turn_cell.specs.View.{seat_of}
 use Rattle.turn_cell.specs.Calls.{Entered, WasSpent}
-use Rattle.stripe_table.specs.Stands.{Stands}
+use Rattle.stripe_table.specs.Represents.{Represents}
 use Rattle.stripe_table.specs.declared.stripe.Stripe.{Stripe}
 use Rattle.event_mgr.specs.Numbers.{numbers_past, IsNumbersPast}
-use Rattle.event_mgr.specs.NumbersStand.{NumbersStand}
+use Rattle.event_mgr.specs.RepresentsNumbers.{RepresentsNumbers}
 use Rattle.event_mgr.specs.declared.numbers.Numbers.{Numbers}
 use Rattle.event_mgr.specs.declared.numbers.NumbersEntry.{NumbersEntry}
 use Rattle.event_mgr.specs.Rows.{name_at}
@@ -30,7 +31,7 @@ module _ {T : Type 0} where
 
 module _ {T : Type 0} (tag : T → List (List ℕ)) where
   abbrev pub stripe_stands : Stripe T → Log Entry → Type 0
-  stripe_stands st h = Stands tag (past_in h) st
+  stripe_stands st h = Represents tag (past_in h) st
 
   module _ (s : ℕ) (v w : View Entry) (name : v.name ≡ name_at s) where
     pub stripe_entered : (e : Entry) → Entered stripe_stands stripe_name e v w → StripeEntered s e v w
@@ -60,12 +61,13 @@ module _ {T : Type 0} (tag : T → List (List ℕ)) where
     }
 
 abbrev pub numbers_stand : Numbers → Log NumbersEntry → Type 0
-numbers_stand n h = NumbersStand (numbers_past h) n
+numbers_stand n h = RepresentsNumbers (numbers_past h) n
 
 abbrev pub numbers_name : Numbers → List ℕ
 numbers_name n = []
 
-pub numbers_entered : (e : NumbersEntry) (v w : View NumbersEntry) → Entered numbers_stand numbers_name e v w → NumbersEntered e v w
+pub numbers_entered : (e : NumbersEntry) (v w : View NumbersEntry) → Entered numbers_stand numbers_name e v w
+    → NumbersEntered e v w
 numbers_entered e v w k = record {
   between = k.between;
   seen = k.seen;
@@ -93,15 +95,25 @@ numbers_spent v w k = record {
 
 -- the past with one entry more
 pub past_in-more : (l : Log Entry) (n : ℕ) (e : Entry) → past_in (l ++ (n, e) ∷ []) ≡ e ∷ past_in l
-past_in-more l n e = ap past_of (map-append (λ (x : ℕ × Entry). x.1) l ((n, e) ∷ [])) ∙ past_of-more (map (λ (x : ℕ × Entry). x.1) l) e
+past_in-more l n e =
+    ap past_of (map-append (λ (x : ℕ × Entry). x.1) l ((n, e) ∷ []))
+    ∙ past_of-more (map (λ (x : ℕ × Entry). x.1) l) e
 
 -- the entry that was made is legal after those before it
-pub entered_last : (s : ℕ) (e : Entry) (v w : View Entry) → (k : StripeEntered s e v w) → IsLegal s 1 (e ∷ past_in (v.seen ++ k.between))
-entered_last s e v w k = subst (IsLegal s 1) (ap past_in k.seen ∙ past_in-more (v.seen ++ k.between) (seat_of v) e) k.legal
+pub entered_last : (s : ℕ) (e : Entry) (v w : View Entry) → (k : StripeEntered s e v w)
+    → IsLegal s 1 (e ∷ past_in (v.seen ++ k.between))
+entered_last s e v w k =
+    subst (IsLegal s 1) (ap past_in k.seen ∙ past_in-more (v.seen ++ k.between) (seat_of v) e) k.legal
 
 -- the past of the numbers with one entry more, and the entry after those before it
-pub numbers_past-more : (l : Log NumbersEntry) (n : ℕ) (e : NumbersEntry) → numbers_past (l ++ (n, e) ∷ []) ≡ e ∷ numbers_past l
-numbers_past-more l n e = ap reverse (map-append (λ (x : ℕ × NumbersEntry). x.1) l ((n, e) ∷ [])) ∙ reverse-append (map (λ (x : ℕ × NumbersEntry). x.1) l) (e ∷ [])
+pub numbers_past-more : (l : Log NumbersEntry) (n : ℕ) (e : NumbersEntry)
+    → numbers_past (l ++ (n, e) ∷ []) ≡ e ∷ numbers_past l
+numbers_past-more l n e =
+    ap reverse (map-append (λ (x : ℕ × NumbersEntry). x.1) l ((n, e) ∷ []))
+    ∙ reverse-append (map (λ (x : ℕ × NumbersEntry). x.1) l) (e ∷ [])
 
-pub numbers_last : (e : NumbersEntry) (v w : View NumbersEntry) → (k : NumbersEntered e v w) → IsNumbersPast (e ∷ numbers_past (v.seen ++ k.between))
-numbers_last e v w k = subst IsNumbersPast (ap numbers_past k.seen ∙ numbers_past-more (v.seen ++ k.between) (seat_of v) e) k.right
+pub numbers_last : (e : NumbersEntry) (v w : View NumbersEntry) → (k : NumbersEntered e v w)
+    → IsNumbersPast (e ∷ numbers_past (v.seen ++ k.between))
+numbers_last e v w k =
+    subst IsNumbersPast
+    (ap numbers_past k.seen ∙ numbers_past-more (v.seen ++ k.between) (seat_of v) e) k.right

@@ -1,9 +1,10 @@
 pub mod FreeNumbers
 pub mod Numbers
-pub mod NumbersStand
+pub mod RepresentsNumbers
 pub mod Rows
 pub mod Stripes
 pub mod Manager
 pub mod Kinds
 pub mod Level
 pub mod Weighing
+pub mod Laws

@@ -1,5 +1,6 @@
 -- To be believed: what the calls of the manager say, over what its pass knows before and after.
-use Rattle.std.specs.Prelude.{◌≡◌, ℕ, ◌/◌, ◌^◌, ◌<◌, ◌⊎◌, List, [], ◌++◌, map, length, slice_get, Option, Some, None, false}
+use Rattle.std.specs.Prelude.{◌≡◌, ℕ, ◌/◌, ◌^◌, ◌<◌, ◌⊎◌, List, [], ◌++◌, map, length, slice_get, Option}
+use Rattle.std.specs.Prelude.{Some, None, false}
 use Rattle.reg_keys.specs.declared.opening.Opening.{Opening}
 use Rattle.reg_keys.specs.declared.event.EventName.{EventName}
 use Rattle.reg_keys.specs.declared.registration.Key.{Key}
@@ -30,7 +31,8 @@ use Rattle.stripe_table.specs.declared.calls.DispatchReply.TheVariants as Dispat
 use Rattle.event_mgr.specs.Numbers.{numbers_past, IsNumbersPast}
 use Rattle.level.specs.Leveling.{HasShared}
 use Rattle.event_mgr.specs.Rows.{At, AreOf, AreFirst, AreSplit, AreJoined, AreShared, views_of}
-use Rattle.event_mgr.specs.Stripes.{stripe_of, past_in, StripeEntered, StripeSpent, StripeTried, StripeTriedSpent, NumbersEntered, NumbersSpent, GivenBack}
+use Rattle.event_mgr.specs.Stripes.{stripe_of, past_in, StripeEntered, StripeSpent, StripeTried}
+use Rattle.event_mgr.specs.Stripes.{StripeTriedSpent, NumbersEntered, NumbersSpent, GivenBack}
 use Rattle.event_mgr.specs.declared.numbers.NumbersCall.TheVariants.{Draw}
 use Rattle.event_mgr.specs.declared.numbers.NumbersReply.TheVariants.{Drawn, AllOut}
 use Rattle.event_mgr.specs.declared.numbers.NumbersEntry.{NumbersEntry}
@@ -113,7 +115,8 @@ pub record IsMgrJoined (v o w : MgrView) : Type 0 where
   pub stripes : AreJoined v.stripes o.stripes w.stripes
   pub numbers : IsJoined v.numbers o.numbers w.numbers
 
--- one pass told another what it had seen, of each of the 33 histories. No pass made a call, and no entry is another's than before
+-- one pass told another what it had seen, of each of the 33 histories. No pass made a call, and no
+-- entry is another's than before
 pub record IsMgrShared (v w v' w' : MgrView) : Type 0 where
   pub stripes : AreShared v.stripes w.stripes v'.stripes w'.stripes
   pub numbers : HasShared v.numbers w.numbers v'.numbers w'.numbers
@@ -132,7 +135,8 @@ number_weight f v = weigh (λ (e : ℕ × NumbersEntry). f e.1) (own_entries v.n
 
 -- ---- one call on one stripe
 
--- what the pass knows of this stripe changed by R, and what it knows of the others and of the numbers is what it was
+-- what the pass knows of this stripe changed by R, and what it knows of the others and
+-- of the numbers is what it was
 pub record OnlyAt (s : ℕ) (R : View Entry → View Entry → Type 0) (v w : MgrView) : Type 0 where
   pub stripe : At s R v.stripes w.stripes
   pub numbers : w.numbers ≡ v.numbers
@@ -153,11 +157,13 @@ TriedAt s e v w = OnlyAt s (StripeTried s e) v w
 abbrev pub TriedSpentAt : ℕ → MgrView → MgrView → Type 0
 TriedSpentAt s v w = OnlyAt s (StripeTriedSpent s) v w
 
--- the one `fetch_or` of the call found this stripe's turn held, and `count` is half the odd word, rounded down
+-- the one `fetch_or` of the call found this stripe's turn held, and `count` is half the
+-- odd word, rounded down
 abbrev pub BusyAt : ℕ → Held → MgrView → MgrView → Type 0
 BusyAt s held v w = (held.stripe ≡ s) × OnlyAt s (λ x y. (held.count ≡ y.found / 2) × IsRefused x y) v w
 
--- the opening is on a descriptor below 4,096, and its number is one of that descriptor's stripe, so that it has a token
+-- the opening is on a descriptor below 4,096, and its number is one of that descriptor's
+-- stripe, so that it has a token
 pub record IsWellFormed (o : Opening) : Type 0 where
   pub descriptor : o.fd < 4096
   pub number : o.number < 2 ^ 57
@@ -171,7 +177,8 @@ NotesFor o (Report.Noted e) = IsNamedFor o e
 NotesFor o _ = Unit {0}
 
 module _ {T : Type 0} where
-  -- a registration that is refused hands the very load back, and one that waits has a key of the opening's stripe
+  -- a registration that is refused hands the very load back, and one that waits has a
+  -- key of the opening's stripe
   abbrev pub RegistersFor : Opening → Payload T → RegisterReply T → Type 0
   RegistersFor o load (Register.Shut back) = back ≡ load
   RegistersFor o load (Register.Crowded back) = back ≡ load
@@ -184,7 +191,8 @@ module _ {T : Type 0} where
   DispatchesFor x Dispatch.Stale = Unit {0}
   DispatchesFor x (Dispatch.Ran list e) = IsNamedFor x.opening e
 
--- How a call on a stripe ended: what it did where its entry was made, and where the stripe's cell was found spent
+-- How a call on a stripe ended: what it did where its entry was made, and where the
+-- stripe's cell was found spent
 pub record CallEnds : Type 1 where
   pub entered : Entry → Type 0
   pub spent : Type 0
@@ -198,17 +206,21 @@ trying_at s v w = record { entered = λ e. TriedAt s e v w; spent = TriedSpentAt
 
 -- a report was entered with this reply, or the cell was spent
 abbrev pub Reports : CallEnds → Opening → Dirs → ReportReply → Type 0
-Reports ends o ds r = (ends.entered (Entries.Report o ds (reported r)) × NotesFor o r) ⊎ ((r ≡ Report.Spent) × ends.spent)
+Reports ends o ds r =
+    (ends.entered (Entries.Report o ds (reported r)) × NotesFor o r) ⊎ ((r ≡ Report.Spent) × ends.spent)
 
 module _ {T : Type 0} (tag : T → List (List ℕ)) where
   -- the same of a registration
   abbrev pub Registers : CallEnds → Opening → Dir → Option ℕ → Payload T → RegisterReply T → Type 0
   Registers ends o d m load r =
-      (ends.entered (Entries.Register o d m (kind_of tag load) (registered r)) × RegistersFor o load r) ⊎ ((r ≡ Register.Spent load) × ends.spent)
+      (ends.entered (Entries.Register o d m (kind_of tag load) (registered r)) × RegistersFor o load r)
+      ⊎ ((r ≡ Register.Spent load) × ends.spent)
 
   -- and of a dispatch
   abbrev pub Dispatches : CallEnds → EventName → DispatchReply T → Type 0
-  Dispatches ends x r = (ends.entered (Entries.Dispatch x (dispatched tag r)) × DispatchesFor x r) ⊎ ((r ≡ Dispatch.Spent x) × ends.spent)
+  Dispatches ends x r =
+      (ends.entered (Entries.Dispatch x (dispatched tag r)) × DispatchesFor x r)
+      ⊎ ((r ≡ Dispatch.Spent x) × ends.spent)
 
 -- a report was entered in the opening's stripe, with this reply
 abbrev pub HasReported : Opening → Dirs → MgrView → ReportReply → MgrView → Type 0
@@ -223,16 +235,23 @@ HasTriedReport o ds v (TryReports.Busy held) w = BusyAt (stripe_of o.fd) held v 
 
 module _ {T : Type 0} (tag : T → List (List ℕ)) where
   -- a registration was entered in the opening's stripe, with this reply
-  abbrev pub HasRegistered : Opening → Dir → Option ℕ → Payload T → MgrView → RegisterReply T → MgrView → Type 0
+  abbrev pub HasRegistered : Opening → Dir → Option ℕ → Payload T → MgrView → RegisterReply T
+      → MgrView → Type 0
   HasRegistered o d m load v r w = Registers tag (waiting_at (stripe_of o.fd) v w) o d m load r
 
   -- the same of one try, which hands the very load back where it finds the turn held
-  abbrev pub HasTriedRegister : Opening → Dir → Option ℕ → Payload T → MgrView → TryRegister T → MgrView → Type 0
-  HasTriedRegister o d m load v (TryRegisters.Waits key e) w = Registers tag (trying_at (stripe_of o.fd) v w) o d m load (Register.Waits key e)
-  HasTriedRegister o d m load v (TryRegisters.Shut back) w = Registers tag (trying_at (stripe_of o.fd) v w) o d m load (Register.Shut back)
-  HasTriedRegister o d m load v (TryRegisters.Crowded back) w = Registers tag (trying_at (stripe_of o.fd) v w) o d m load (Register.Crowded back)
-  HasTriedRegister o d m load v (TryRegisters.Spent back) w = Registers tag (trying_at (stripe_of o.fd) v w) o d m load (Register.Spent back)
-  HasTriedRegister o d m load v (TryRegisters.Busy held back) w = (back ≡ load) × BusyAt (stripe_of o.fd) held v w
+  abbrev pub HasTriedRegister : Opening → Dir → Option ℕ → Payload T → MgrView → TryRegister T
+      → MgrView → Type 0
+  HasTriedRegister o d m load v (TryRegisters.Waits key e) w =
+      Registers tag (trying_at (stripe_of o.fd) v w) o d m load (Register.Waits key e)
+  HasTriedRegister o d m load v (TryRegisters.Shut back) w =
+      Registers tag (trying_at (stripe_of o.fd) v w) o d m load (Register.Shut back)
+  HasTriedRegister o d m load v (TryRegisters.Crowded back) w =
+      Registers tag (trying_at (stripe_of o.fd) v w) o d m load (Register.Crowded back)
+  HasTriedRegister o d m load v (TryRegisters.Spent back) w =
+      Registers tag (trying_at (stripe_of o.fd) v w) o d m load (Register.Spent back)
+  HasTriedRegister o d m load v (TryRegisters.Busy held back) w =
+      (back ≡ load) × BusyAt (stripe_of o.fd) held v w
 
   -- a dispatch was entered in the stripe of the event's opening, with this reply
   abbrev pub HasDispatched : EventName → MgrView → DispatchReply T → MgrView → Type 0
@@ -240,15 +259,21 @@ module _ {T : Type 0} (tag : T → List (List ℕ)) where
 
   -- the same of one try, which hands the event back where it finds the turn held
   abbrev pub HasTriedDispatch : EventName → MgrView → TryDispatch T → MgrView → Type 0
-  HasTriedDispatch x v (TryDispatches.Ran list e) w = Dispatches tag (trying_at (stripe_of x.opening.fd) v w) x (Dispatch.Ran list e)
-  HasTriedDispatch x v TryDispatches.Stale w = Dispatches tag (trying_at (stripe_of x.opening.fd) v w) x Dispatch.Stale
-  HasTriedDispatch x v (TryDispatches.Spent back) w = Dispatches tag (trying_at (stripe_of x.opening.fd) v w) x (Dispatch.Spent back)
-  HasTriedDispatch x v (TryDispatches.Busy held back) w = (back ≡ x) × BusyAt (stripe_of x.opening.fd) held v w
+  HasTriedDispatch x v (TryDispatches.Ran list e) w =
+      Dispatches tag (trying_at (stripe_of x.opening.fd) v w) x (Dispatch.Ran list e)
+  HasTriedDispatch x v TryDispatches.Stale w =
+      Dispatches tag (trying_at (stripe_of x.opening.fd) v w) x Dispatch.Stale
+  HasTriedDispatch x v (TryDispatches.Spent back) w =
+      Dispatches tag (trying_at (stripe_of x.opening.fd) v w) x (Dispatch.Spent back)
+  HasTriedDispatch x v (TryDispatches.Busy held back) w =
+      (back ≡ x) × BusyAt (stripe_of x.opening.fd) held v w
 
   -- a withdrawal was entered in the key's stripe, with this reply
   abbrev pub HasWithdrawn : Key → MgrView → WithdrawOut T → MgrView → Type 0
-  HasWithdrawn key v (Withdraw.Back job) w = EnteredAt (stripe_of key.number) (Entries.Withdraw key (Withdraws.Back (kind_of_job tag job))) v w
-  HasWithdrawn key v Withdraw.Gone w = EnteredAt (stripe_of key.number) (Entries.Withdraw key Withdraws.Gone) v w
+  HasWithdrawn key v (Withdraw.Back job) w =
+      EnteredAt (stripe_of key.number) (Entries.Withdraw key (Withdraws.Back (kind_of_job tag job))) v w
+  HasWithdrawn key v Withdraw.Gone w =
+      EnteredAt (stripe_of key.number) (Entries.Withdraw key Withdraws.Gone) v w
   HasWithdrawn key v Withdraw.Spent w = SpentAt (stripe_of key.number) v w
 
 -- a flag was asked for in the key's stripe, with this reply
@@ -262,7 +287,8 @@ HasAsked key v Ask.Spent w = SpentAt (stripe_of key.number) v w
 -- ---- the answers to calls that draw a number or give one back
 
 -- what the pass knows of this stripe changed by R, and what it knows of the numbers by N
-pub record AtBoth (s : ℕ) (R : View Entry → View Entry → Type 0) (N : View NumbersEntry → View NumbersEntry → Type 0) (v w : MgrView) : Type 0 where
+pub record AtBoth (s : ℕ) (R : View Entry → View Entry → Type 0)
+    (N : View NumbersEntry → View NumbersEntry → Type 0) (v w : MgrView) : Type 0 where
   pub stripe : At s R v.stripes w.stripes
   pub numbers : N v.numbers w.numbers
 
@@ -275,24 +301,37 @@ pub record DrewInVain (v w : MgrView) : Type 0 where
   pub fd : ℕ
   pub drawn : View NumbersEntry
   pub drew : Drew fd v.numbers drawn
-  pub refused : At (stripe_of fd) (λ x y. StripeEntered (stripe_of fd) (Entries.Open fd Opens.Spent) x y ⊎ StripeSpent (stripe_of fd) x y) v.stripes w.stripes
+  pub refused : At (stripe_of fd)
+      (λ x y. StripeEntered (stripe_of fd) (Entries.Open fd Opens.Spent) x y ⊎ StripeSpent (stripe_of fd) x y)
+      v.stripes w.stripes
   pub back : GivenBack fd drawn w.numbers
 
 -- a number was drawn and its descriptor opened in its stripe, or not
 abbrev pub HasOpened : MgrView → OpenOut → MgrView → Type 0
-HasOpened v (Open.Opened o) w = AtBoth (stripe_of o.fd) (StripeEntered (stripe_of o.fd) (Entries.Open o.fd (Opens.Opened o))) (Drew o.fd) v w × IsWellFormed o
-HasOpened v Open.Full w = NumbersEntered (record { call = Draw; reply = AllOut }) v.numbers w.numbers × (w.stripes ≡ v.stripes)
-HasOpened v (Open.Taken o) w = AtBoth (stripe_of o.fd) (StripeEntered (stripe_of o.fd) (Entries.Open o.fd (Opens.Taken o))) (Drew o.fd) v w
+HasOpened v (Open.Opened o) w =
+    AtBoth (stripe_of o.fd) (StripeEntered (stripe_of o.fd) (Entries.Open o.fd (Opens.Opened o)))
+    (Drew o.fd) v w × IsWellFormed o
+HasOpened v Open.Full w =
+    NumbersEntered (record { call = Draw; reply = AllOut }) v.numbers w.numbers × (w.stripes ≡ v.stripes)
+HasOpened v (Open.Taken o) w =
+    AtBoth (stripe_of o.fd) (StripeEntered (stripe_of o.fd) (Entries.Open o.fd (Opens.Taken o)))
+    (Drew o.fd) v w
 HasOpened v Open.Spent w = (NumbersSpent v.numbers w.numbers × (w.stripes ≡ v.stripes)) ⊎ DrewInVain v w
 
 module _ {T : Type 0} (tag : T → List (List ℕ)) where
   -- a close was entered in the opening's stripe, and its number given back where it was shut
   abbrev pub HasClosed : Opening → MgrView → CloseOut T → MgrView → Type 0
-  HasClosed o v (Close.Shut list) w = AtBoth (stripe_of o.fd) (StripeEntered (stripe_of o.fd) (Entries.Close o (Closes.Shut (map (shut_key tag) list)))) (GivenBack o.fd) v w
+  HasClosed o v (Close.Shut list) w =
+      AtBoth (stripe_of o.fd)
+      (StripeEntered (stripe_of o.fd) (Entries.Close o (Closes.Shut (map (shut_key tag) list))))
+      (GivenBack o.fd) v w
   HasClosed o v Close.NotOpen w = EnteredAt (stripe_of o.fd) (Entries.Close o Closes.NotOpen) v w
   HasClosed o v Close.Spent w = SpentAt (stripe_of o.fd) v w
 
   -- after a close the opening is live in nothing that any pass has seen of a history that goes on from it
   abbrev pub IsClosedForGood : Opening → Type 0
-  IsClosedForGood o = (list : List (Key × Option T)) (v w u : MgrView) (later : List Entry) → HasClosed o v (Close.Shut list) w → IsLawful u
-      → past_in (seen_in (stripe_of o.fd) u) ≡ later ++ past_in (seen_in (stripe_of o.fd) w) → is_live (past_in (seen_in (stripe_of o.fd) u)) o ≡ false
+  IsClosedForGood o =
+      (list : List (Key × Option T)) (v w u : MgrView) (later : List Entry)
+      → HasClosed o v (Close.Shut list) w → IsLawful u
+      → past_in (seen_in (stripe_of o.fd) u) ≡ later ++ past_in (seen_in (stripe_of o.fd) w)
+      → is_live (past_in (seen_in (stripe_of o.fd) u)) o ≡ false

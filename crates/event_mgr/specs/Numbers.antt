@@ -1,5 +1,7 @@
--- To be believed: which numbers of descriptors are out after a history of the calls on them, and what each call is answered. The definitions read the history as a past: the list of its entries, the latest first.
-use Rattle.std.specs.Prelude.{◌≡◌, ℕ, ◌<◌, suc, zero, ◌==◌, Bool, true, false, not, if◌then◌else◌, List, [], ◌∷◌, map, filter, reverse, Option, Some, None}
+-- To be believed: which numbers of descriptors are out after a history of the calls on them, and what each
+-- call is answered. The definitions read the history as a past: the list of its entries, the latest first.
+use Rattle.std.specs.Prelude.{◌≡◌, ℕ, ◌<◌, suc, zero, ◌==◌, Bool, true, false, not, if◌then◌else◌, List, []}
+use Rattle.std.specs.Prelude.{◌∷◌, map, filter, reverse, Option, Some, None}
 use Rattle.std.specs.List.{list_any}
 use Rattle.event_mgr.specs.declared.numbers.NumbersCall.{NumbersCall}
 use Rattle.event_mgr.specs.declared.numbers.NumbersCall.TheVariants.{Draw, GiveBack}

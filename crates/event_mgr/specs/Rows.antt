@@ -1,4 +1,5 @@
--- To be believed: rows of turn cells, and rows of passes of them. What the passes of a row know is a row of views.
+-- To be believed: rows of turn cells, and rows of passes of them. What the passes of a
+-- row know is a row of views.
 use Rattle.std.specs.Prelude.{◌≡◌, ℕ, List, [], ◌∷◌, map, length, slice_get, slice_set, Some}
 use Rattle.crossbeam_utils.specs.declared.cache_padded.CachePadded.{CachePadded}
 use Rattle.crossbeam_utils.specs.Padded.{padded_value}
@@ -43,11 +44,13 @@ module _ {P E : Type 0} where
   views_of p = map view_of p.passes.items
 
 module _ {P C R E : Type 0} where
-  -- a cell for each stripe and a pass for each: the pass at a place is of the cell at that place, and knows the name of that stripe
+  -- a cell for each stripe and a pass for each: the pass at a place is of the cell at that place,
+  -- and knows the name of that stripe
   pub record IsRow (cs : List (CachePadded (TurnCell P C R E))) (ps : List (Pass P E)) : Type 0 where
     pub cells : length cs ≡ 32
     pub passes : length ps ≡ 32
-    pub each : (i : ℕ) (x : CachePadded (TurnCell P C R E)) (y : Pass P E) → slice_get cs i ≡ Some x → slice_get ps i ≡ Some y → IsOf (padded_value x) y
+    pub each : (i : ℕ) (x : CachePadded (TurnCell P C R E)) (y : Pass P E) → slice_get cs i ≡ Some x
+        → slice_get ps i ≡ Some y → IsOf (padded_value x) y
     pub names : (i : ℕ) (y : Pass P E) → slice_get ps i ≡ Some y → (view_of y).name ≡ name_at i
 
   -- the passes are of the cells
@@ -64,20 +67,24 @@ module _ {E : Type 0} where
   pub record AreSplit (vs ws os : List (View E)) : Type 0 where
     pub many : length ws ≡ length vs
     pub many_new : length os ≡ length vs
-    pub each : (i : ℕ) (v w o : View E) → slice_get vs i ≡ Some v → slice_get ws i ≡ Some w → slice_get os i ≡ Some o → IsSplit v w o
+    pub each : (i : ℕ) (v w o : View E) → slice_get vs i ≡ Some v → slice_get ws i ≡ Some w
+        → slice_get os i ≡ Some o → IsSplit v w o
 
   -- the passes of a row that knew os were joined into those of one that knew vs, which then know ws
   pub record AreJoined (vs os ws : List (View E)) : Type 0 where
     pub many : length ws ≡ length vs
-    pub each : (i : ℕ) (v o w : View E) → slice_get vs i ≡ Some v → slice_get os i ≡ Some o → slice_get ws i ≡ Some w → IsJoined v o w
+    pub each : (i : ℕ) (v o w : View E) → slice_get vs i ≡ Some v → slice_get os i ≡ Some o
+        → slice_get ws i ≡ Some w → IsJoined v o w
 
   -- of each place of two rows, the one pass told the other what it had seen
   pub record AreShared (vs ws vs' ws' : List (View E)) : Type 0 where
     pub many : length vs' ≡ length vs
     pub many_other : length ws' ≡ length ws
-    pub each : (i : ℕ) (v w v' w' : View E) → slice_get vs i ≡ Some v → slice_get ws i ≡ Some w → slice_get vs' i ≡ Some v' → slice_get ws' i ≡ Some w' → HasShared v w v' w'
+    pub each : (i : ℕ) (v w v' w' : View E) → slice_get vs i ≡ Some v → slice_get ws i ≡ Some w
+        → slice_get vs' i ≡ Some v' → slice_get ws' i ≡ Some w' → HasShared v w v' w'
 
-  module _ {P C R : Type 0} (stands : P → Log E → Type 0) (name_of : P → List ℕ) (entry : C → R → E) (answers : C → R → Type 0) where
+  module _ {P C R : Type 0} (stands : P → Log E → Type 0) (name_of : P → List ℕ) (entry : C → R → E)
+      (answers : C → R → Type 0) where
     -- what each answer of one try on the cell at a place says
     abbrev pub TriesAt : ℕ → C → List (View E) → Tried P C R E → List (View E) → Type 0
     TriesAt i call vs result ws = At i (λ v w. IsStep stands name_of entry answers call v result w) vs ws

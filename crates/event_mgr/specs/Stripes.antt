@@ -1,4 +1,5 @@
--- To be believed: what a call adds to the history of a stripe or of the numbers, over what its pass knows before and after. Of the part no more is told than that the history is legal.
+-- To be believed: what a call adds to the history of a stripe or of the numbers, over what its pass knows
+-- before and after. Of the part no more is told than that the history is legal.
 use Rattle.std.specs.Prelude.{◌≡◌, ℕ, ◌+◌, ◌*◌, ◌%◌, ◌^◌, ◌<◌, ◌⊎◌, List, [], ◌∷◌, ◌++◌, map, length, true}
 use Rattle.reg_keys.specs.declared.entry.Entry.{Entry}
 use Rattle.reg_keys.specs.Histories.{past_of}
@@ -86,4 +87,5 @@ pub record NumbersSpent (v w : View NumbersEntry) : Type 0 where
 
 -- the number was given back, with whatever reply, if the cell of the numbers isn't spent
 abbrev pub GivenBack : ℕ → View NumbersEntry → View NumbersEntry → Type 0
-GivenBack fd v w = ((r : NumbersReply) × NumbersEntered (record { call = GiveBack fd; reply = r }) v w) ⊎ NumbersSpent v w
+GivenBack fd v w =
+    ((r : NumbersReply) × NumbersEntered (record { call = GiveBack fd; reply = r }) v w) ⊎ NumbersSpent v w

@@ -1,4 +1,5 @@
--- To be believed: what each call adds to the weight of the pass's own entries: that of its own entry, or nothing where a cell was spent.
+-- To be believed: what each call adds to the weight of the pass's own entries: that of its own entry, or
+-- nothing where a cell was spent.
 use Rattle.std.specs.Prelude.{◌≡◌, ℕ, ◌+◌, ◌⊎◌, List, map, Option}
 use Rattle.reg_keys.specs.declared.opening.Opening.{Opening}
 use Rattle.reg_keys.specs.declared.event.EventName.{EventName}
@@ -23,7 +24,8 @@ use Rattle.event_mgr.specs.declared.answers.CloseOut.{CloseOut}
 use Rattle.event_mgr.specs.declared.answers.CloseOut.TheVariants as Close
 use Rattle.event_mgr.specs.declared.answers.WithdrawOut.{WithdrawOut}
 use Rattle.event_mgr.specs.declared.answers.AskOut.{AskOut}
-use Rattle.event_mgr.specs.Manager.{MgrView, EnteredAt, SpentAt, HasOpened, HasReported, HasRegistered, HasDispatched, HasClosed, own_weight}
+use Rattle.event_mgr.specs.Manager.{MgrView, EnteredAt, SpentAt, HasOpened, HasReported, HasRegistered}
+use Rattle.event_mgr.specs.Manager.{HasDispatched, HasClosed, own_weight}
 
 -- the own entries weigh more by this entry
 abbrev pub Gained : Entry → MgrView → MgrView → Type 0
@@ -52,10 +54,16 @@ module _ {T : Type 0} (tag : T → List (List ℕ)) where
     pub entered : (s : ℕ) (e : Entry) (v w : MgrView) → EnteredAt s e v w → Gained e v w
     pub spent : (s : ℕ) (v w : MgrView) → SpentAt s v w → Kept v w
     pub opened : (v : MgrView) (r : OpenOut) (w : MgrView) → HasOpened v r w → OpenGained v r w
-    pub reported_by : (o : Opening) (ds : Dirs) (v : MgrView) (r : ReportReply) (w : MgrView) → HasReported o ds v r w
+    pub reported_by : (o : Opening) (ds : Dirs) (v : MgrView) (r : ReportReply) (w : MgrView)
+        → HasReported o ds v r w
         → Gained (Entries.Report o ds (reported r)) v w ⊎ ((r ≡ Report.Spent) × Kept v w)
-    pub registered_by : (o : Opening) (d : Dir) (m : Option ℕ) (load : Payload T) (v : MgrView) (r : RegisterReply T) (w : MgrView) → HasRegistered tag o d m load v r w
-        → Gained (Entries.Register o d m (kind_of tag load) (registered r)) v w ⊎ ((r ≡ Register.Spent load) × Kept v w)
-    pub dispatched_by : (x : EventName) (v : MgrView) (r : DispatchReply T) (w : MgrView) → HasDispatched tag x v r w
+    pub registered_by : (o : Opening) (d : Dir) (m : Option ℕ)
+        (load : Payload T) (v : MgrView) (r : RegisterReply T) (w : MgrView)
+        → HasRegistered tag o d m load v r w
+        → Gained (Entries.Register o d m (kind_of tag load) (registered r)) v w
+        ⊎ ((r ≡ Register.Spent load) × Kept v w)
+    pub dispatched_by : (x : EventName) (v : MgrView) (r : DispatchReply T) (w : MgrView)
+        → HasDispatched tag x v r w
         → Gained (Entries.Dispatch x (dispatched tag r)) v w ⊎ ((r ≡ Dispatch.Spent x) × Kept v w)
-    pub closed : (o : Opening) (v : MgrView) (r : CloseOut T) (w : MgrView) → HasClosed tag o v r w → CloseGained o v r w
+    pub closed : (o : Opening) (v : MgrView) (r : CloseOut T) (w : MgrView) → HasClosed tag o v r w
+        → CloseGained o v r w

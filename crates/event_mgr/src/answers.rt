@@ -1,5 +1,5 @@
-// What the manager's calls answer. A call that the stripe alone answers has the stripe's reply; `Spent` stands there
-// also for a cell that has 2^62 entries.
+//! What the manager's calls answer. A call that the stripe alone answers has the stripe's reply; `Spent`
+//! stands there also for a cell that has 2^62 entries.
 use reg_keys::{Dir, Event, Key, Marks, Opening};
 use stripe_table::{DispatchReply, FiredList, Payload, RegisterReply, ReportReply, ShutList};
 

@@ -1,4 +1,4 @@
-// Single bits of a word.
+//! Single bits of a word.
 ghost use Rattle.std.specs.Prelude.{◌≡◌, ◌≢◌, ℕ, ◌<◌, ◌==◌, not};
 ghost use Rattle.std.specs.Int.{bit_at};
 
@@ -28,7 +28,7 @@ pub(crate) fn has_bit(word: u64, bit: u32) -> bool
     word & (1 << bit) != 0
 }
 
-/// The lowest bit of a word that isn't nought.
+/// The lowest bit of a word that isn't zero.
 pub(crate) fn lowest_bit(word: u64) -> u32
     requires { 0 < word }
     ensures within { result < 64 }

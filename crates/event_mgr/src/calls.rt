@@ -1,5 +1,5 @@
-// The manager's calls that wait for their stripe's turn. Each is one call on one stripe; `open_fd` and `close_fd`
-// also draw a number or give one back.
+//! The manager's calls that wait for their stripe's turn. Each is one call on one stripe; `open_fd` and
+//! `close_fd` also draw a number or give one back.
 ghost use Rattle.std.specs.Prelude.{◌<◌};
 ghost use Rattle.reg_keys.specs.declared.limits.TheConstants.{STRIPES};
 ghost use Rattle.stripe_table.specs.Calls.{IsOfStripe};
@@ -99,7 +99,8 @@ impl<T: Load> EventManager<T> {
     ) -> RegisterOut<T>
         requires { IsOfMgr self.now pass.old }
         ensures own { IsOfMgr self.now pass.new }
-        ensures step { HasRegistered T.tag opening dir mark load (mgr_view pass.old) result (mgr_view pass.new) }
+        ensures step { HasRegistered T.tag opening dir mark load (mgr_view pass.old) result
+            (mgr_view pass.new) }
     {
         let stripe = stripe_of_descriptor(opening.fd);
         let call = StripeCall::Register(opening, dir, mark, load);

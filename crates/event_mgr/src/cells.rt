@@ -1,5 +1,5 @@
-// A row of 32 turn cells, one for each stripe, and a pass for each of them. A call is made on one cell, and makes its
-// steps on that cell's word alone: so calls on two stripes never meet.
+//! A row of 32 turn cells, one for each stripe, and a pass for each of them. A call is made on one cell, and
+//! makes its steps on that cell's word alone: so calls on two stripes never meet.
 ghost use Rattle.std.specs.Prelude.{◌≡◌, ◌<◌, IfOk, IfErr};
 
 use crossbeam_utils::CachePadded;
@@ -10,9 +10,9 @@ use turn_cell::{Part, Pass, Stepped, Tried, TurnCell};
 
 /// A turn cell for each stripe.
 ///
-/// The padding keeps the handles of the cells apart: each is two pointers and some numbers that no call writes. What
-/// calls write, a cell's word and its slot, lies behind those pointers, and is kept apart from other cells' by the
-/// cell itself. Nothing is claimed of the processor's cache.
+/// The padding keeps the handles of the cells apart: each is two pointers and some numbers that no call
+/// writes. What calls write, a cell's word and its slot, lies behind those pointers, and is kept apart from
+/// other cells' by the cell itself. Nothing is claimed of the processor's cache.
 #[derive(Drop)]
 pub struct Cells<P: Part> {
     cells: Vec<CachePadded<TurnCell<P>>>,
@@ -56,7 +56,8 @@ impl<P: Part> Cells<P> {
         requires stripe { stripe < STRIPES }
         requires may { P.may (name_at stripe) call }
         ensures own { AreOf self.now pass.new }
-        ensures step { TriesAt P.stands P.name P.entry P.answers stripe call (views_of pass.old) result (views_of pass.new) }
+        ensures step { TriesAt P.stands P.name P.entry P.answers stripe call (views_of pass.old) result
+            (views_of pass.new) }
     {
         let mine = &mut pass.passes[stripe as usize];
         self.cells[stripe as usize].try_step(mine, call)
@@ -74,7 +75,8 @@ impl<P: Part> Cells<P> {
         requires stripe { stripe < STRIPES }
         requires may { P.may (name_at stripe) call }
         ensures own { AreOf self.now pass.new }
-        ensures step { StepsAt P.stands P.name P.entry P.answers stripe call (views_of pass.old) result (views_of pass.new) }
+        ensures step { StepsAt P.stands P.name P.entry P.answers stripe call (views_of pass.old) result
+            (views_of pass.new) }
     {
         let mine = &mut pass.passes[stripe as usize];
         self.cells[stripe as usize].step(rt, mine, call)
@@ -112,7 +114,8 @@ impl<P: Part> Cells<P> {
         requires to { AreOf self.now to.old }
         ensures from { AreOf self.now from.new }
         ensures to { AreOf self.now to.new }
-        ensures shared { AreShared (views_of from.old) (views_of to.old) (views_of from.new) (views_of to.new) }
+        ensures shared { AreShared (views_of from.old) (views_of to.old) (views_of from.new)
+            (views_of to.new) }
     {
         for stripe in 0..self.cells.len() {
             let source = &mut from.passes[stripe];

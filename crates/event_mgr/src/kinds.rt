@@ -1,5 +1,5 @@
-// The seven kinds of reply stand behind one type. A call gets a reply of its own kind, so each of these takes a reply
-// out of that type, and no other kind can come.
+//! The seven kinds of reply stand behind one type. A call gets a reply of its own kind, so each of these
+//! takes a reply out of that type, and no other kind can come.
 ghost use Rattle.std.specs.Prelude.{◌≡◌};
 ghost use Rattle.stripe_table.specs.declared.calls.Reply.TheVariants as Answer;
 ghost use Rattle.stripe_table.specs.declared.calls.StripeCall.TheVariants as Call;

@@ -1,6 +1,6 @@
-// What holds of all that passes of a manager have seen and made. Each law is the contract of a function that does
-// nothing when it runs.
-ghost use Rattle.std.specs.Prelude.{◌≡◌, ℕ, List, ◌∷◌, All};
+//! What holds of all that passes of a manager have seen and made, and of the numbers that descriptors are
+//! opened by. Each law is the contract of a function that does nothing when it runs.
+ghost use Rattle.std.specs.Prelude.{◌≡◌, ℕ, List, ◌∷◌, All, false};
 ghost use Rattle.turn_cell.specs.View.{first_view};
 ghost use Rattle.turn_cell.specs.Calls.{IsSplit};
 ghost use Rattle.reg_keys.specs.AllStripes.{HappensOnce};
@@ -10,6 +10,10 @@ ghost use Rattle.event_mgr.specs.Stripes.{past_in};
 ghost use Rattle.event_mgr.specs.Manager.{MgrView, IsLawful, IsFirst, IsMgrSplit, IsClosedForGood, seen_in};
 ghost use Rattle.event_mgr.specs.Level.{MgrCell, known_at, AreLevel, AddUp};
 ghost use Rattle.event_mgr.specs.Weighing.{CallsWeigh};
+ghost use Rattle.event_mgr.specs.Numbers.{IsLeastFree, AreAllOut, is_among, numbers_out, number_reply};
+ghost use Rattle.event_mgr.specs.declared.numbers.NumbersCall.TheVariants.{Draw, GiveBack};
+ghost use Rattle.event_mgr.specs.declared.numbers.NumbersReply.TheVariants.{Drawn, AllOut, Back};
+ghost use Rattle.event_mgr.specs.declared.numbers.NumbersEntry.{NumbersEntry};
 
 use reg_keys::{
     legal_closes_for_good, legal_has_one_event_each, legal_runs_once, legal_stripes_happen_once,
@@ -45,7 +49,8 @@ pub fn what_was_closed_stays_closed<T: Load>()
 /// A manager's first pass is the first of each of its 33 cells, and where it is split each of them is. So
 /// passes that are made by splitting share all seats, as `level` asks for.
 pub fn manager_passes_are_split_cell_by_cell()
-    ensures first { (v : MgrView) → IsFirst v → (k : MgrCell) → (name : List ℕ) × (known_at k v ≡ first_view name) }
+    ensures first { (v : MgrView) → IsFirst v → (k : MgrCell)
+        → (name : List ℕ) × (known_at k v ≡ first_view name) }
     ensures split { (v : MgrView) (w : MgrView) (o : MgrView) → IsLawful v → IsMgrSplit v w o →
         (k : MgrCell) → IsSplit (known_at k v) (known_at k w) (known_at k o) }
 {}
@@ -57,4 +62,19 @@ pub fn manager_passes_are_split_cell_by_cell()
 pub fn level_passes_add_up<A>()
     ensures { (known : A → MgrView) (x : A) (xs : List A) →
         All (λ y. IsLawful (known y)) (x ∷ xs) → AreLevel known (x ∷ xs) → AddUp known x xs }
+{}
+
+/// A draw is answered with the least number below 4,096 that isn't out, and otherwise exactly where
+/// all of them are.
+pub fn a_draw_gives_the_least_number()
+    ensures drawn { (past : List NumbersEntry) (n : ℕ) → number_reply past Draw ≡ Drawn n
+        → IsLeastFree (is_among (numbers_out past)) n }
+    ensures all_out { (past : List NumbersEntry) → number_reply past Draw ≡ AllOut
+        → AreAllOut (is_among (numbers_out past)) }
+{}
+
+/// A number that was given back isn't out.
+pub fn a_number_is_given_back_once()
+    ensures { (past : List NumbersEntry) (n : ℕ)
+        → is_among (numbers_out (record { call = GiveBack n; reply = Back } ∷ past)) n ≡ false }
 {}

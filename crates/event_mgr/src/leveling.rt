@@ -1,4 +1,4 @@
-// Passes of a manager tell one another what they have seen, so that all of them can be brought level.
+//! Passes of a manager tell one another what they have seen, so that all of them can be brought level.
 use crate::manager::EventManager;
 use crate::pass::MgrPass;
 use level::Share;

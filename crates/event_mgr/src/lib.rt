@@ -28,7 +28,6 @@ mod tries;
 
 // What holds of all histories.
 mod laws;
-mod numbers_laws;
 
 pub use answers::{
     AskOut, CloseOut, DispatchOut, Held, OpenOut, RegisterOut, ReportOut, TryDispatch, TryRegister,
@@ -36,12 +35,11 @@ pub use answers::{
 };
 pub use cells::{Cells, CellsPass};
 pub use laws::{
-    callbacks_run_once, calls_weigh, level_passes_add_up, manager_passes_are_split_cell_by_cell,
-    what_was_closed_stays_closed,
+    a_draw_gives_the_least_number, a_number_is_given_back_once, callbacks_run_once, calls_weigh,
+    level_passes_add_up, manager_passes_are_split_cell_by_cell, what_was_closed_stays_closed,
 };
 pub use manager::EventManager;
 pub use numbers::{Numbers, NumbersCall, NumbersEntry, NumbersReply};
-pub use numbers_laws::{a_draw_gives_the_least_number, a_number_is_given_back_once};
 pub use pass::MgrPass;
 
 #[cfg(test)]

@@ -1,11 +1,12 @@
-// The event manager: 32 stripes of the table of callbacks, each behind a turn of its own, and the numbers of
-// descriptors behind one more. This file has what is stored, its making, and what is done with passes.
-//
-// What meets what: a call takes the turn of its own stripe and no other, so two calls meet only where they are on
-// one stripe. Opening draws a number first and then opens its descriptor; closing closes first and gives the number
-// back after that. The order is so since the two histories know nothing of one another: a number that was given
-// back before the close could be drawn, and its descriptor found taken, by a thread in between. No clause says
-// that a number is free exactly while its descriptor has no opening: an opening can be closed by whoever knows it.
+//! The event manager: 32 stripes of the table of callbacks, each behind a turn of its own, and the numbers of
+//! descriptors behind one more. This file has what is stored, its making, and what is done with passes.
+//!
+//! What meets what: a call takes the turn of its own stripe and no other, so two calls meet only where they
+//! are on one stripe. Opening draws a number first and then opens its descriptor; closing closes first and
+//! gives the number back after that. The order is so since the two histories know nothing of one another: a
+//! number that was given back before the close could be drawn, and its descriptor found taken, by a thread in
+//! between. No clause says that a number is free exactly while its descriptor has no opening: an opening can
+//! be closed by whoever knows it.
 ghost use Rattle.std.specs.Prelude.{◌≡◌, ◌<◌, IfOk, IfErr};
 ghost use Rattle.event_mgr.specs.Manager.{IsOfMgr, IsFirst, IsMgrSplit, IsMgrJoined, IsMgrShared, mgr_view};
 
@@ -67,7 +68,8 @@ impl<T: Load> EventManager<T> {
         requires to { IsOfMgr self.now to.old }
         ensures from { IsOfMgr self.now from.new }
         ensures to { IsOfMgr self.now to.new }
-        ensures shared { IsMgrShared (mgr_view from.old) (mgr_view to.old) (mgr_view from.new) (mgr_view to.new) }
+        ensures shared { IsMgrShared (mgr_view from.old) (mgr_view to.old) (mgr_view from.new)
+            (mgr_view to.new) }
     {
         self.stripes.share(&mut from.stripes, &mut to.stripes);
         let Ok(other) = self.numbers.split(&mut from.numbers) else {

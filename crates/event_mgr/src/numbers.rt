@@ -1,10 +1,10 @@
-// The numbers of descriptors, 0 to 4,095, as a part. An opening draws its descriptor's number here, and
-// a close gives it back.
+//! The numbers of descriptors, 0 to 4,095, as a part. An opening draws its descriptor's number here, and
+//! a close gives it back.
 ghost use Rattle.std.specs.Prelude.{List, [], ◌∷◌, IfOk};
 ghost use Rattle.event_mgr.specs.declared.numbers.NumbersCall.TheVariants.{Draw, GiveBack};
 ghost use Rattle.event_mgr.specs.declared.numbers.NumbersEntry.{NumbersEntry};
 ghost use Rattle.event_mgr.specs.Numbers.{numbers_past};
-ghost use Rattle.event_mgr.specs.NumbersStand.{NumbersStand};
+ghost use Rattle.event_mgr.specs.RepresentsNumbers.{RepresentsNumbers};
 
 use crate::free_numbers::FreeNumbers;
 use std::alloc::{AllocError, Global};
@@ -48,7 +48,7 @@ pub struct Numbers {
 impl Numbers {
     /// No number is out. All the memory that the numbers ever need is taken here.
     pub fn new(alloc: Global) -> Result<Numbers, AllocError>
-        ensures { IfOk result (λ n. NumbersStand [] n) }
+        ensures { IfOk result (λ n. RepresentsNumbers [] n) }
     {
         let free = FreeNumbers::all(alloc)?;
         Ok(Numbers { free })
@@ -56,8 +56,9 @@ impl Numbers {
 
     /// Takes the least number that isn't out.
     fn draw(&mut self) -> NumbersReply
-        requires { (past : List NumbersEntry) × NumbersStand past self.old }
-        ensures { (past : List NumbersEntry) → NumbersStand past self.old → NumbersStand (record { call = Draw; reply = result } ∷ past) self.new }
+        requires { (past : List NumbersEntry) × RepresentsNumbers past self.old }
+        ensures { (past : List NumbersEntry) → RepresentsNumbers past self.old
+            → RepresentsNumbers (record { call = Draw; reply = result } ∷ past) self.new }
     {
         match self.free.take_least() {
             Some(number) => NumbersReply::Drawn(number),
@@ -67,8 +68,9 @@ impl Numbers {
 
     /// Gives a number back.
     fn give_back(&mut self, number: u16) -> NumbersReply
-        requires { (past : List NumbersEntry) × NumbersStand past self.old }
-        ensures { (past : List NumbersEntry) → NumbersStand past self.old → NumbersStand (record { call = GiveBack number; reply = result } ∷ past) self.new }
+        requires { (past : List NumbersEntry) × RepresentsNumbers past self.old }
+        ensures { (past : List NumbersEntry) → RepresentsNumbers past self.old
+            → RepresentsNumbers (record { call = GiveBack number; reply = result } ∷ past) self.new }
     {
         if self.free.put_back(number) {
             NumbersReply::Back
@@ -86,7 +88,7 @@ impl Part for Numbers {
     type Entry = NumbersEntry;
 
     // The numbers stand for the entries alone, whatever their seats.
-    ghost stands = { λ n h. NumbersStand (numbers_past h) n };
+    ghost stands = { λ n h. RepresentsNumbers (numbers_past h) n };
 
     ghost name = { λ _. [] };
 

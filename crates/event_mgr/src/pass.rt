@@ -1,4 +1,4 @@
-// What calls on the manager are made with.
+//! What calls on the manager are made with.
 use crate::cells::CellsPass;
 use crate::numbers::{Numbers, NumbersEntry};
 use reg_keys::Entry;

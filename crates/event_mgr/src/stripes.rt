@@ -1,4 +1,4 @@
-// The 32 stripes of a new manager, and which stripe a call is on.
+//! The 32 stripes of a new manager, and which stripe a call is on.
 ghost use Rattle.std.specs.Prelude.{◌≡◌, ◌<◌, IfOk};
 ghost use Rattle.reg_keys.specs.declared.limits.TheConstants.{STRIPES};
 ghost use Rattle.event_mgr.specs.Rows.{AreNewParts};

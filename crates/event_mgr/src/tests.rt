@@ -1,4 +1,4 @@
-// Rows of cells on two threads, and the manager's calls on one.
+//! Rows of cells on two threads, and the manager's calls on one.
 ghost use Rattle.std.specs.Prelude.{◌<◌, ◌∷◌, [], IfOk, All, length};
 ghost use Rattle.event_mgr.specs.Rows.{AreOf, AreNewParts};
 ghost use Rattle.event_mgr.specs.Manager.{IsOfMgr, IsFirst, mgr_view};
@@ -8,7 +8,10 @@ ghost use Rattle.level.specs.Meanings.{HoldAllSeats};
 mod numbers;
 mod plain_numbers;
 
-use super::*;
+use crate::{
+    AskOut, Cells, CellsPass, CloseOut, DispatchOut, EventManager, MgrPass, OpenOut, TryDispatch,
+    TryRegister, TryReport, WithdrawOut, manager_passes_are_split_cell_by_cell,
+};
 use level::{bring_level, split_passes_hold_all_seats};
 use reg_keys::{Dir, Dirs, Opening, STRIPES};
 use std::alloc::{AllocError, Global};
@@ -320,7 +323,7 @@ fn a_split_pass_makes_calls_and_is_joined(rt: HostRuntime) -> Result<(), Fail> {
 /// How many descriptors each of two threads opens.
 const EACH: u16 = 100;
 
-/// Opens so many descriptors.
+/// Opens this many descriptors.
 fn open_many<R: Wait>(rt: &R, mgr: &EventManager<Job>, pass: MgrPass<Job>) -> bool
     requires { IsOfMgr mgr.now pass }
 {

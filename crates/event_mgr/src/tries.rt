@@ -1,4 +1,4 @@
-// The manager's calls that don't wait. Each makes one `fetch_or`, on the word of its stripe's cell.
+//! The manager's calls that don't wait. Each makes one `fetch_or`, on the word of its stripe's cell.
 ghost use Rattle.std.specs.Prelude.{◌<◌};
 ghost use Rattle.reg_keys.specs.declared.limits.TheConstants.{STRIPES};
 ghost use Rattle.stripe_table.specs.Calls.{IsOfStripe};
@@ -44,7 +44,8 @@ impl<T: Load> EventManager<T> {
     ) -> TryRegister<T>
         requires { IsOfMgr self.now pass.old }
         ensures own { IsOfMgr self.now pass.new }
-        ensures step { HasTriedRegister T.tag opening dir mark load (mgr_view pass.old) result (mgr_view pass.new) }
+        ensures step { HasTriedRegister T.tag opening dir mark load (mgr_view pass.old) result
+            (mgr_view pass.new) }
     {
         let stripe = stripe_of_descriptor(opening.fd);
         let call = StripeCall::Register(opening, dir, mark, load);

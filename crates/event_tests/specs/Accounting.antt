@@ -1,4 +1,5 @@
--- To be believed: the account of registrations, by the tags of jobs: an inequality of sums for each opening and number.
+-- To be believed: the account of registrations, by the tags of jobs: an inequality of
+-- sums for each opening and number.
 use Rattle.std.specs.Prelude.{ℕ, ◌+◌, ◌≤◌, ◌&&◌, ◌==◌, List, [], ◌∷◌, Bool}
 use Rattle.reg_keys.specs.declared.opening.Opening.{Opening}
 use Rattle.reg_keys.specs.declared.entry.LoadKind.{LoadKind}
@@ -39,10 +40,15 @@ pending o k jobs = total (λ f. of_job o k f.1.kind) jobs
 abbrev pub finishes_in : List Finish → Opening → ℕ → ℕ
 finishes_in finished o k = total (λ f. one_if (is_job o k f.opening.number f.opening.fd f.number)) finished
 
--- Each registration but a first one, each finish, and each job that is still to be run, comes of one that ended before, which it alone comes of
+-- Each registration but a first one, each finish, and each job that is still to be run, comes of one that
+-- ended before, which it alone comes of
 abbrev pub Accounts : (Opening → ℕ → ℕ) → MgrView → Jobs → Type 0
-Accounts finishes v jobs = (o : Opening) (k : ℕ) → (own_weight (accepted o (k + 1)) v + finishes o k) + pending o k jobs ≤ own_weight (ended o k) v
+Accounts finishes v jobs =
+    (o : Opening) (k : ℕ)
+    → (own_weight (accepted o (k + 1)) v + finishes o k) + pending o k jobs ≤ own_weight (ended o k) v
 
 -- the same while one job is in hand, of the opening p and the number n
 abbrev pub Owes : Opening → ℕ → (Opening → ℕ → ℕ) → MgrView → Jobs → Type 0
-Owes p n finishes v jobs = (o : Opening) (k : ℕ) → (own_weight (accepted o (k + 1)) v + finishes o k) + (one_if (is_job o k p.number p.fd n) + pending o k jobs) ≤ own_weight (ended o k) v
+Owes p n finishes v jobs =
+    (o : Opening) (k : ℕ) → (own_weight (accepted o (k + 1)) v + finishes o k)
+    + (one_if (is_job o k p.number p.fd n) + pending o k jobs) ≤ own_weight (ended o k) v

@@ -16,5 +16,7 @@ events_of_again Refused = []
 
 -- a job that was registered again is in hand no more; one that was refused still is
 abbrev pub IsTakenUp : Opening → ℕ → MgrView → Again → MgrView → Type 0
-IsTakenUp p n v (Waits e) w = (finishes : Opening → ℕ → ℕ) (jobs : Jobs) → Owes p n finishes v jobs → Accounts finishes w jobs
-IsTakenUp p n v Refused w = (finishes : Opening → ℕ → ℕ) (jobs : Jobs) → Owes p n finishes v jobs → Owes p n finishes w jobs
+IsTakenUp p n v (Waits e) w =
+    (finishes : Opening → ℕ → ℕ) (jobs : Jobs) → Owes p n finishes v jobs → Accounts finishes w jobs
+IsTakenUp p n v Refused w =
+    (finishes : Opening → ℕ → ℕ) (jobs : Jobs) → Owes p n finishes v jobs → Owes p n finishes w jobs

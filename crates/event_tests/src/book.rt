@@ -53,7 +53,8 @@ impl Book {
 
     /// Takes a connection that is finished.
     pub(crate) fn finish(&mut self, opening: Opening, number: u64, read: u64)
-        ensures { (o : Opening) (k : ℕ) → finishes_in self.new.finished.items o k ≤ finishes_in self.old.finished.items o k + one_if (is_job o k opening.number opening.fd number) }
+        ensures { (o : Opening) (k : ℕ) → finishes_in self.new.finished.items o k
+            ≤ finishes_in self.old.finished.items o k + one_if (is_job o k opening.number opening.fd number) }
     {
         if self.finished.len() >= self.finished.capacity() {
             return;

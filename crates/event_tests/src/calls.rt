@@ -64,7 +64,8 @@ pub(crate) fn close<T: Load, R: Wait>(
     requires { IsOfMgr mgr.now pass.old }
     ensures own { IsOfMgr mgr.now pass.new }
     ensures made { HasMadeCalls (mgr_view pass.old) [] (mgr_view pass.new) }
-    ensures owes { (p : Opening) (n : ℕ) (finishes : Opening → ℕ → ℕ) (jobs : Jobs) → Owes p n finishes (mgr_view pass.old) jobs → Owes p n finishes (mgr_view pass.new) jobs }
+    ensures owes { (p : Opening) (n : ℕ) (finishes : Opening → ℕ → ℕ) (jobs : Jobs)
+        → Owes p n finishes (mgr_view pass.old) jobs → Owes p n finishes (mgr_view pass.new) jobs }
 {
     // Laws of the calls, for the proof: they do nothing when run.
     calls_of_runs::<T>();
@@ -85,7 +86,9 @@ pub(crate) fn finish<R: Wait>(
     requires { IsOfMgr mgr.now pass.old }
     ensures own { IsOfMgr mgr.now pass.new }
     ensures made { HasMadeCalls (mgr_view pass.old) [] (mgr_view pass.new) }
-    ensures finished { (jobs : Jobs) → Owes opening number (finishes_in book.old.finished.items) (mgr_view pass.old) jobs → Accounts (finishes_in book.new.finished.items) (mgr_view pass.new) jobs }
+    ensures finished { (jobs : Jobs)
+        → Owes opening number (finishes_in book.old.finished.items) (mgr_view pass.old) jobs
+        → Accounts (finishes_in book.new.finished.items) (mgr_view pass.new) jobs }
 {
     close(rt, mgr, pass, opening);
     book.finish(opening, number, read);

@@ -64,15 +64,21 @@ impl<'a> Runner<Job> for ServerRunner<'a> {
     ) -> AfterRun
         requires own { IsOfMgr mgr.now pass.old }
         requires stop { never ≡ None }
-        requires fits { (o : Opening) × (rest : Jobs) × Accounts (finishes_in self.old.book.now.finished.items) (mgr_view pass.old) (job_in (λ job. tag_of job.opening job.number) o fired.old ++ rest) }
+        requires fits { (o : Opening) × (rest : Jobs)
+            × Accounts (finishes_in self.old.book.now.finished.items) (mgr_view pass.old)
+            (job_in (λ job. tag_of job.opening job.number) o fired.old ++ rest) }
         ensures own { IsOfMgr mgr.now pass.new }
-        ensures fits { (o : Opening) (rest : Jobs) → Accounts (finishes_in self.old.book.now.finished.items) (mgr_view pass.old) (job_in (λ job. tag_of job.opening job.number) o fired.old ++ rest) → Accounts (finishes_in self.new.book.now.finished.items) (mgr_view pass.new) rest }
+        ensures fits { (o : Opening) (rest : Jobs)
+            → Accounts (finishes_in self.old.book.now.finished.items) (mgr_view pass.old)
+            (job_in (λ job. tag_of job.opening job.number) o fired.old ++ rest)
+            → Accounts (finishes_in self.new.book.now.finished.items) (mgr_view pass.new) rest }
         ensures made { RunMade (mgr_view pass.old) result (mgr_view pass.new) }
         ensures flag { IfNone fired.old.job (GivesNoEvents result) }
         ensures stop { never ≡ code_of result }
         ensures runs { Gains untold untold (fired.old.key ∷ []) }
         ensures shuts { untold ≡ untold }
-        ensures keeps { (self.new.poller.ghost_name ≡ self.old.poller.ghost_name) × (self.new.book.ghost_name ≡ self.old.book.ghost_name) }
+        ensures keeps { (self.new.poller.ghost_name ≡ self.old.poller.ghost_name)
+            × (self.new.book.ghost_name ≡ self.old.book.ghost_name) }
         ensures poller { LeavesPolls ⟦<MemPoller as Poller>⟧.meaning self.old.poller.now self.new.poller.now }
     {
         calls_of_runs::<Job>();
@@ -112,12 +118,18 @@ impl<'a> Runner<Job> for ServerRunner<'a> {
     }
 
     fn shut(&mut self, _key: Key, job: Job)
-        requires fits { (v : MgrView) × (rest : Jobs) × (o : Opening) × (d : Dir) × (m : Marks) × Accounts (finishes_in self.old.book.now.finished.items) v (job_at o _key d m (tag_of job.opening job.number) ∷ rest) }
-        ensures fits { (v : MgrView) (rest : Jobs) (o : Opening) (d : Dir) (m : Marks) → Accounts (finishes_in self.old.book.now.finished.items) v (job_at o _key d m (tag_of job.opening job.number) ∷ rest) → Accounts (finishes_in self.new.book.now.finished.items) v rest }
+        requires fits { (v : MgrView) × (rest : Jobs) × (o : Opening) × (d : Dir) × (m : Marks)
+            × Accounts (finishes_in self.old.book.now.finished.items) v
+            (job_at o _key d m (tag_of job.opening job.number) ∷ rest) }
+        ensures fits { (v : MgrView) (rest : Jobs) (o : Opening) (d : Dir) (m : Marks)
+            → Accounts (finishes_in self.old.book.now.finished.items) v
+            (job_at o _key d m (tag_of job.opening job.number) ∷ rest)
+            → Accounts (finishes_in self.new.book.now.finished.items) v rest }
         ensures stop { never ≡ never }
         ensures runs { untold ≡ untold }
         ensures shuts { Gains untold untold (_key ∷ []) }
-        ensures keeps { (self.new.poller.ghost_name ≡ self.old.poller.ghost_name) × (self.new.book.ghost_name ≡ self.old.book.ghost_name) }
+        ensures keeps { (self.new.poller.ghost_name ≡ self.old.poller.ghost_name)
+            × (self.new.book.ghost_name ≡ self.old.book.ghost_name) }
         ensures poller { LeavesPolls ⟦<MemPoller as Poller>⟧.meaning self.old.poller.now self.new.poller.now }
     {
         self.book.finish(job.opening, job.number, job.read);
@@ -136,7 +148,10 @@ impl<'a> Runner<Job> for ServerRunner<'a> {
       keeps_on = λ r s t a b. (trans _ _ _ a.0 b.0, trans _ _ _ a.1 b.1);
       keeps_polled = λ r idle result out p h. (refl, refl);
       fits_polled = λ r idle result out p v jobs h f. f;
-      fits_reported = λ r o ds v reply w jobs lv lw h f. reported (finishes_in r.book.now.finished.items) o ds v reply w jobs h f;
-      fits_dispatched = λ r e v reply w jobs lv lw h f. dispatched (λ job. tag_of job.opening job.number) (finishes_in r.book.now.finished.items) e v reply w jobs h f;
+      fits_reported = λ r o ds v reply w jobs lv lw h f.
+          reported (finishes_in r.book.now.finished.items) o ds v reply w jobs h f;
+      fits_dispatched = λ r e v reply w jobs lv lw h f.
+          dispatched (λ job. tag_of job.opening job.number)
+          (finishes_in r.book.now.finished.items) e v reply w jobs h f;
     } };
 }

@@ -15,7 +15,8 @@ use Rattle.fd_cache.specs.Calls.{number_of}
 use Rattle.fd_cache.specs.Represents.{Enters, Represents}
 
 module _ {F X : Type 0} {G : Ghosts F X} where
-  -- a lease has the path that was asked for, and where the folder is told, `Absent` says that it hasn't the path
+  -- a lease has the path that was asked for, and where the folder is told, `Absent` says
+  -- that it hasn't the path
   abbrev pub Gives : List ℕ → Acquired F X G → Type 0
   Gives path (Leased lease) = G.file_path lease.file ≡ path
   Gives path Absent = IfSome G.folder (λ f. file_at f path ≡ None)
@@ -44,13 +45,18 @@ module _ {F X : Type 0} {G : Ghosts F X} where
   ending k path Spent = Deeds.Abandoned k
 
   -- how an acquire went: its own deeds, the last one first, and what the files told before and after
-  pub data HasAcquired (path : List ℕ) (result : Acquired F X G) (deeds : List (CacheDeed (Lease F X G))) (old new : FilesTold) : Type 0 where
+  pub data HasAcquired (path : List ℕ) (result : Acquired F X G) (deeds : List (CacheDeed (Lease F X G)))
+      (old new : FilesTold) : Type 0 where
     -- a lease came back before, and the files weren't asked
-    hit : (lease : Lease F X G) → result ≡ Leased lease → deeds ≡ Deeds.Hit (number_of lease.entry) path lease ∷ [] → new ≡ old → HasAcquired path result deeds old new
+    hit : (lease : Lease F X G) → result ≡ Leased lease
+        → deeds ≡ Deeds.Hit (number_of lease.entry) path lease ∷ [] → new ≡ old
+        → HasAcquired path result deeds old new
     -- the files were looked at, and the ticket ended
-    fresh : (k : ℕ) → deeds ≡ ending k path result ∷ Deeds.Fresh k path ∷ [] → LookedSo result path old new → HasAcquired path result deeds old new
+    fresh : (k : ℕ) → deeds ≡ ending k path result ∷ Deeds.Fresh k path ∷ [] → LookedSo result path old new
+        → HasAcquired path result deeds old new
     -- the files were looked at for a path that the cache doesn't keep
-    past : deeds ≡ Deeds.Bypass path ∷ [] → LookedSo result path old new → HasAcquired path result deeds old new
+    past : deeds ≡ Deeds.Bypass path ∷ [] → LookedSo result path old new
+        → HasAcquired path result deeds old new
     -- memory was short before anything was asked
     short : result ≡ NoMemory → deeds ≡ [] → new ≡ old → HasAcquired path result deeds old new
 
@@ -64,13 +70,18 @@ module _ {F X : Type 0} {G : Ghosts F X} where
 
   -- the deed of a release: the lease is kept, or it isn't
   abbrev pub IsRelease : Lease F X G → CacheDeed (Lease F X G) → Type 0
-  IsRelease lease deed = (deed ≡ Deeds.Kept (number_of lease.entry) (G.file_path lease.file) lease) ⊎ (deed ≡ Deeds.Extra lease.entry (G.file_path lease.file))
+  IsRelease lease deed =
+      (deed ≡ Deeds.Kept (number_of lease.entry) (G.file_path lease.file) lease)
+      ⊎ (deed ≡ Deeds.Extra lease.entry (G.file_path lease.file))
 
-  -- an acquire of one's own: whatever history the cache stood for, it then stands for that one and the acquire's own deeds
-  pub record Ran (path : List ℕ) (result : Acquired F X G) (old new : FilesTold) (before after : Cache F X G) : Type 0 where
+  -- an acquire of one's own: whatever history the cache stood for, it then stands for that
+  -- one and the acquire's own deeds
+  pub record Ran (path : List ℕ) (result : Acquired F X G) (old new : FilesTold)
+      (before after : Cache F X G) : Type 0 where
     pub deeds : List (CacheDeed (Lease F X G))
     pub acquired : HasAcquired path result deeds old new
-    pub stands : (past : List (CacheDeed (Lease F X G))) → Represents past before → Represents (deeds ++ past) after
+    pub stands : (past : List (CacheDeed (Lease F X G))) → Represents past before
+        → Represents (deeds ++ past) after
 
   -- a release of one's own: the same with the one deed of the release
   pub record HasReleased (lease : Lease F X G) (before after : Cache F X G) : Type 0 where

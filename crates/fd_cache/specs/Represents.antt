@@ -5,11 +5,12 @@ use Rattle.outside.specs.declared.files.Files.{Ghosts}
 use Rattle.fd_cache.specs.declared.lease.Lease.{Lease}
 use Rattle.fd_cache.specs.declared.cache.Cache.{Cache}
 use Rattle.fd_cache.specs.declared.deed.CacheDeed.{CacheDeed}
-use Rattle.fd_cache.specs.History.{IsCacheHistory, Standing, entry_at}
+use Rattle.fd_cache.specs.History.{IsCacheHistory, EntryState, entry_at}
 use Rattle.fd_cache.specs.Shelf.{at}
 
 -- entries are what a history leaves, and each reply of the history is what it called for
-pub record ShelfRepresents {L : Type 0} (past : List (CacheDeed L)) (shelf : List (Option (Standing L))) : Type 0 where
+pub record ShelfRepresents {L : Type 0} (past : List (CacheDeed L))
+    (shelf : List (Option (EntryState L))) : Type 0 where
   pub legal : IsCacheHistory past
   pub entries : (e : ℕ) → entry_at e past ≡ at e shelf
 
@@ -24,7 +25,8 @@ module _ {F X : Type 0} {G : Ghosts F X} where
 
   -- whatever history the cache stood for, it then stands for that one and this deed
   abbrev pub Enters : CacheDeed (Lease F X G) → Cache F X G → Cache F X G → Type 0
-  Enters deed old new = (past : List (CacheDeed (Lease F X G))) → Represents past old → Represents (deed ∷ past) new
+  Enters deed old new =
+      (past : List (CacheDeed (Lease F X G))) → Represents past old → Represents (deed ∷ past) new
 
   -- the same of the history of a cell, the oldest deed first, whatever the seats
   abbrev pub stands_for : Cache F X G → List (ℕ × CacheDeed (Lease F X G)) → Type 0

@@ -1,4 +1,4 @@
-// What an acquire and a release answer.
+//! What an acquire and a release answer.
 use crate::lease::Lease;
 use outside::Files;
 

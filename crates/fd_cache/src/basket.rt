@@ -1,4 +1,5 @@
-// Where a reap puts the leases that it closes, so that their files are closed by the caller and not under the lock.
+//! Where a reap puts the leases that it closes, so that their files are closed by the
+//! caller and not under the lock.
 ghost use Rattle.std.specs.Prelude.{◌≡◌, ◌<◌, ◌∷◌, ◌++◌, [], IfOk, length};
 
 use std::alloc::{AllocError, Global};

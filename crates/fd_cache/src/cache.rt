@@ -1,4 +1,4 @@
-// The cache itself: what each call makes of its entries, and what it answers.
+//! The cache itself: what each call makes of its entries, and what it answers.
 ghost use Rattle.std.specs.Prelude.{◌≡◌, ◌<◌, ◌∷◌, ◌++◌, ℕ, List, [], IfOk, IsSome, IsSomeAnd, IsTrue, Some, string_bytes};
 ghost use Rattle.fd_cache.specs.Shelf.{KeepsOwn};
 
@@ -56,7 +56,7 @@ impl<F: Files> Cache<F> {
         }
     }
 
-    // Lends the file of a path that has an entry.
+    /// Lends the file of a path that has an entry.
     fn acquire_at(&mut self, k: usize, path: String) -> CacheReply<F>
         requires inside { k < 256 }
         requires there { HasPath (string_bytes path) (at k self.old.shelf) }
@@ -82,7 +82,8 @@ impl<F: Files> Cache<F> {
     ) -> Lease<F>
         requires { HasFile F.folder (F.file_path file) size mtime }
         ensures answers { answers_call (Calls.Supplied ticket file size mtime) (Replies.Made result) }
-        ensures enters { Enters (deed_of (Calls.Supplied ticket file size mtime) (Replies.Made result)) self.old self.new }
+        ensures enters { Enters (deed_of (Calls.Supplied ticket file size mtime) (Replies.Made result))
+            self.old self.new }
     {
         let entry = if self.counts(ticket.entry, &file) {
             Some(ticket.entry)
@@ -119,7 +120,8 @@ impl<F: Files> Cache<F> {
         }
     }
 
-    /// Closes what is left: the leases of each entry that nobody has a lease of and nobody asked for since the last reap.
+    /// Closes what is left: the leases of each entry that nobody has a lease of and nobody
+    /// asked for since the last reap.
     pub(crate) fn reap(&mut self, basket: &mut Basket<Lease<F>>)
         requires { basket.old ≡ [] }
         ensures { Enters (Deeds.Reaped basket.new) self.old self.new }
@@ -127,11 +129,12 @@ impl<F: Files> Cache<F> {
         self.shelf.reap(basket);
     }
 
-    // Whether a lease of this file counts for the entry of a number.
+    /// Whether a lease of this file counts for the entry of a number.
     fn counts(&self, k: u16, file: &F::File) -> bool
         ensures is { result ≡ counts (F.file_path file.now) (at k self.now.shelf) }
         ensures inside { IsTrue result → k < 256 }
-        ensures there { IsTrue result → IsSomeAnd (at k self.now.shelf) (λ s. (s.path ≡ F.file_path file.now) × (0 < s.leases)) }
+        ensures there { IsTrue result
+            → IsSomeAnd (at k self.now.shelf) (λ s. (s.path ≡ F.file_path file.now) × (0 < s.leases)) }
     {
         match self.shelf.get(k as usize) {
             Some(entry) => F::is_at(file, entry.path()) && entry.is_leased(),
@@ -180,7 +183,7 @@ impl<F: Files> Part for Cache<F> {
     }
 }
 
-// The file of a lease.
+/// The file of a lease.
 fn file_of<F: Files>(lease: Lease<F>) -> F::File
     ensures { result ≡ lease.file }
 {

@@ -1,4 +1,4 @@
-// What a cache is asked, and what it answers.
+//! What a cache is asked, and what it answers.
 use crate::basket::Basket;
 use crate::lease::{Lease, Ticket};
 use outside::Files;

@@ -1,4 +1,4 @@
-// An entry of a cache: a path, how many of its leases are out, and at most two that came back.
+//! An entry of a cache: a path, how many of its leases are out, and at most two that came back.
 ghost use Rattle.std.specs.Prelude.{◌≡◌, ◌+◌, ◌-◌, ◌^◌, ◌<◌, ◌≤◌, ◌==◌, ◌&&◌, ◌↔◌, not, [], ◌∷◌, ◌++◌, true, false, None, Some, IsTrue, length, drop, slice_get, string_bytes};
 ghost use Rattle.fd_cache.specs.History.{begun, given_back, is_left, lent};
 
@@ -25,12 +25,13 @@ pub(crate) struct Entry<L> {
 
 impl<L> Model for Entry<L> {
     ghost use Rattle.std.specs.Prelude.{string_bytes};
-    ghost use Rattle.fd_cache.specs.History.{Standing};
+    ghost use Rattle.fd_cache.specs.History.{EntryState};
     ghost use Rattle.fd_cache.specs.Idle.{idle_list};
 
-    ghost Value = { Standing L };
+    ghost Value = { EntryState L };
 
-    ghost view = { λ e. record { path = string_bytes e.path; leases = e.leases; idle = idle_list e.idle; asked = e.asked } };
+    ghost view = { λ e.
+        record { path = string_bytes e.path; leases = e.leases; idle = idle_list e.idle; asked = e.asked } };
 }
 
 impl<L: Drop> Entry<L> {
@@ -88,8 +89,10 @@ impl<L: Drop> Entry<L> {
 
     /// Counts one lease less, and keeps the one that came back, where there is room for it.
     pub(crate) fn take_back(&mut self, lease: L) -> Option<L>
-        ensures kept { length self.old.idle < 2 → (result ≡ None) × (self.new ≡ given_back (lease ∷ []) self.old) }
-        ensures extra { 2 ≤ length self.old.idle → (result ≡ Some lease) × (self.new ≡ given_back [] self.old) }
+        ensures kept { length self.old.idle < 2
+            → (result ≡ None) × (self.new ≡ given_back (lease ∷ []) self.old) }
+        ensures extra { 2 ≤ length self.old.idle
+            → (result ≡ Some lease) × (self.new ≡ given_back [] self.old) }
     {
         self.leases = self.leases.saturating_sub(1);
         match mem::replace(&mut self.idle, Idle::None) {

@@ -1,5 +1,5 @@
-// A table of numbers by the hash of a path: a number stands in the first place from its path's hash on that was
-// free. The shelf checks what it says against its entries, so no contract speaks of it.
+//! A table of numbers by the hash of a path: a number stands in the first place from its path's hash on that
+//! was free. The shelf checks what it says against its entries, so no contract speaks of it.
 ghost use Rattle.std.specs.Prelude.{◌≡◌, ◌<◌, vec_len};
 
 use std::alloc::{AllocError, Global};
@@ -36,7 +36,7 @@ impl Index {
         (hash % PLACES as u64) as usize
     }
 
-    /// The place behind a place.
+    /// The place after a place.
     pub(crate) fn next(place: usize) -> usize
         requires { place < 512 }
         ensures { result < 512 }

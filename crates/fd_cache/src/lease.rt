@@ -1,4 +1,4 @@
-// What a cache hands out and takes back.
+//! What a cache hands out and takes back.
 ghost use Rattle.std.specs.Prelude.{◌≡◌, ◌<◌, IfSome, length};
 ghost use Rattle.outside.specs.FileCauses.{PartWithin, ReadPart, ReadsFrom};
 ghost use Rattle.outside.specs.Folder.{HasFile};
@@ -27,7 +27,8 @@ impl<F: Files> Lease<F> {
         ensures within { PartWithin result buf.new }
         ensures reads { IfSome F.folder (λ f. ReadsFrom f (F.file_path self.old.file) at buf.new result) }
         ensures path { F.file_path self.new.file ≡ F.file_path self.old.file }
-        ensures same { (self.new.entry ≡ self.old.entry) × (self.new.size ≡ self.old.size) × (self.new.mtime ≡ self.old.mtime) }
+        ensures same { (self.new.entry ≡ self.old.entry) × (self.new.size ≡ self.old.size)
+            × (self.new.mtime ≡ self.old.mtime) }
         ensures read { ReadPart result (F.told files.old) (F.told files.new) }
     {
         files.read_at(&mut self.file, at, buf)

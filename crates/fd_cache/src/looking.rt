@@ -1,4 +1,4 @@
-// A look for a file that the cache doesn't keep.
+//! A look for a file that the cache doesn't keep.
 ghost use Rattle.fd_cache.specs.Acquired.{Gives, LookedSo};
 
 use crate::acquired::Acquired;

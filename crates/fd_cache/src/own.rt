@@ -1,4 +1,4 @@
-// A cache of one's own: nobody else calls it, so nothing waits.
+//! A cache of one's own: nobody else calls it, so nothing waits.
 ghost use Rattle.std.specs.Prelude.{◌≡◌};
 ghost use Rattle.fd_cache.specs.declared.deed.CacheDeed.TheVariants as Deeds;
 ghost use Rattle.fd_cache.specs.Acquired.{Asks, Gives, HasReleased, LookedSo, Ran, ending};

@@ -1,4 +1,5 @@
-// A cache that threads share, in a turn cell. The files are looked at between two turns, and closed behind one.
+//! A cache that threads share, in a turn cell. The files are looked at between two
+//! turns, and closed after one.
 ghost use Rattle.std.specs.Prelude.{◌≡◌};
 ghost use Rattle.turn_cell.specs.Calls.{IsOf, view_of};
 ghost use Rattle.fd_cache.specs.Acquired.{Gives};
@@ -27,7 +28,8 @@ pub fn acquire<R: Wait, F: Files>(
     requires { IsOf cell.now pass.old }
     ensures own { IsOf cell.now pass.new }
     ensures gives { Gives path.now result }
-    ensures ran { HasShared path.now result (view_of pass.old) (view_of pass.new) (F.told files.old) (F.told files.new) }
+    ensures ran { HasShared path.now result (view_of pass.old) (view_of pass.new)
+        (F.told files.old) (F.told files.new) }
 {
     let Ok(asked) = String::from_str(alloc, path) else {
         return Acquired::NoMemory;
@@ -70,7 +72,8 @@ fn look<R: Wait, F: Files>(
     requires { IsOf cell.now pass.old }
     ensures own { IsOf cell.now pass.new }
     ensures gives { Gives path.now result }
-    ensures ended { HasEndedTicket ticket.entry path.now result (view_of pass.old) (view_of pass.new) (F.told files.old) (F.told files.new) }
+    ensures ended { HasEndedTicket ticket.entry path.now result (view_of pass.old) (view_of pass.new)
+        (F.told files.old) (F.told files.new) }
 {
     match files.find(path) {
         FindOut::Found(opened) => {

@@ -1,6 +1,6 @@
-// The entries of a cache, by their numbers.
+//! The entries of a cache, by their numbers.
 ghost use Rattle.std.specs.Prelude.{◌≡◌, ◌≢◌, ◌<◌, ◌≤◌, ◌+◌, ◌-◌, ◌^◌, ◌↔◌, ℕ, IsTrue, IsSome, IsSomeAnd, IfSome, IfNone, IfOk, Some, None, [], ◌∷◌, ◌++◌, length, option_copied, option_map, slice_get, slice_index_or, slice_set, string_bytes, vec_len};
-ghost use Rattle.fd_cache.specs.History.{HasPath, Standing, begun, closed, closed_at, given_back, idle_at, lent, swept};
+ghost use Rattle.fd_cache.specs.History.{HasPath, EntryState, begun, closed, closed_at, given_back, idle_at, lent, swept};
 ghost use Rattle.fd_cache.specs.Shelf.{at};
 
 use crate::basket::Basket;
@@ -15,8 +15,8 @@ const ENTRIES: usize = 256;
 
 /// The entries of a cache: each is free, or has a path that no other has.
 ///
-/// A path's entry is found by the index, without a look at other entries but where hashes meet. That a path has none
-/// is known only once all entries were looked at.
+/// A path's entry is found by the index, without a look at other entries but where hashes meet. That a path
+/// has none is known only once all entries were looked at.
 #[derive(Drop)]
 pub(crate) struct Shelf<L> {
     entries: Vec<Option<Entry<L>>>,
@@ -25,9 +25,9 @@ pub(crate) struct Shelf<L> {
 
 impl<L> Model for Shelf<L> {
     ghost use Rattle.std.specs.Prelude.{◌≡◌, List, Option, vec_len};
-    ghost use Rattle.fd_cache.specs.History.{Standing};
+    ghost use Rattle.fd_cache.specs.History.{EntryState};
 
-    ghost Value = { List (Option (Standing L)) };
+    ghost Value = { List (Option (EntryState L)) };
 
     ghost view = { λ s. s.entries.items };
 
@@ -68,7 +68,7 @@ impl<L: Drop> Shelf<L> {
         }
     }
 
-    // The entry of this path that the index names.
+    /// The entry of this path that the index names.
     fn indexed(&self, path: &str) -> Option<usize>
         ensures { IfSome result (λ k. (k < 256) × HasPath path.now (at k self.now)) }
     {
@@ -84,7 +84,7 @@ impl<L: Drop> Shelf<L> {
         None
     }
 
-    // The entry of this path, by all entries.
+    /// The entry of this path, by all entries.
     fn searched(&self, path: &str) -> Option<usize>
         ensures some { IfSome result (λ k. (k < 256) × HasPath path.now (at k self.now)) }
         ensures none { IfNone result ((k : ℕ) → HasPath path.now (at k self.now) → ⊥) }
@@ -99,7 +99,7 @@ impl<L: Drop> Shelf<L> {
         None
     }
 
-    // Makes the index anew, of the entries that are there.
+    /// Makes the index anew, of the entries that are there.
     fn note_all(&mut self)
         ensures { self.new ≡ self.old }
     {
@@ -166,8 +166,10 @@ impl<L: Drop> Shelf<L> {
         requires inside { k < 256 }
         requires there { IsSome (at k self.old) }
         ensures size { length self.old ≡ 256 }
-        ensures kept { length (idle_at (at k self.old)) < 2 → (result ≡ None) × (self.new ≡ slice_set self.old k (option_map (given_back (lease ∷ [])) (at k self.old))) }
-        ensures extra { 2 ≤ length (idle_at (at k self.old)) → (result ≡ Some lease) × (self.new ≡ slice_set self.old k (option_map (given_back []) (at k self.old))) }
+        ensures kept { length (idle_at (at k self.old)) < 2 → (result ≡ None)
+            × (self.new ≡ slice_set self.old k (option_map (given_back (lease ∷ [])) (at k self.old))) }
+        ensures extra { 2 ≤ length (idle_at (at k self.old)) → (result ≡ Some lease)
+            × (self.new ≡ slice_set self.old k (option_map (given_back []) (at k self.old))) }
     {
         match &mut self.entries[k] {
             Some(entry) => entry.take_back(lease),
@@ -209,7 +211,7 @@ impl<L: Drop> Shelf<L> {
         self.note_all();
     }
 
-    // The same of one entry.
+    /// The same of one entry.
     fn reap_at(&mut self, k: usize, basket: &mut Basket<L>)
         requires inside { k < 256 }
         requires room { length basket.old + 2 ≤ 512 }

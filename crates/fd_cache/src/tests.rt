@@ -1,4 +1,4 @@
-// A cache over files in memory, of one's own and shared.
+//! A cache over files in memory, of one's own and shared.
 ghost use Rattle.std.specs.Prelude.{◌≡◌};
 ghost use Rattle.outside.specs.MemFolder.{folder_in};
 ghost use Rattle.turn_cell.specs.Calls.{IsOf};
@@ -75,7 +75,8 @@ fn is_kept<R: Wait + Abort, F: Files>(
     }
 }
 
-/// A leased file isn't closed. One that came back is closed by the first reap before which nobody asked for it.
+/// A leased file isn't closed. One that came back is closed by the first reap before
+/// which nobody asked for it.
 fn closes_what_nobody_asked_for<R: Wait + Abort, K: Place>(
     rt: &R,
     alloc: Global,

@@ -1,4 +1,5 @@
--- To be believed: what becomes of a flag of one's own, in the past of its stripe, whose latest entry comes first.
+-- To be believed: what becomes of a flag of one's own, in the past of its stripe, whose
+-- latest entry comes first.
 use Rattle.std.specs.Prelude.{◌≡◌, ℕ, List, ◌∷◌, ◌++◌, Option}
 use Rattle.reg_keys.specs.declared.opening.Opening.{Opening}
 use Rattle.reg_keys.specs.declared.event.EventName.{EventName}

@@ -56,8 +56,10 @@ abbrev pub HasPutNamed : ℕ → Option EventName → View Move → View Move �
 HasPutNamed capacity None q r = r ≡ q
 HasPutNamed capacity (Some e) q r = HasMoved capacity (Put e) q r
 
--- The flag was asked for until the last answer, where there is one. Then this is so of what the pass knows of its stripe
-pub record HasAskedOn (key : Key) (last : List AskOutcome) (Then : View Entry → Type 0) (v w : MgrView) : Type 0 where
+-- The flag was asked for until the last answer, where there is one. Then this is so of
+-- what the pass knows of its stripe
+pub record HasAskedOn (key : Key) (last : List AskOutcome) (Then : View Entry → Type 0)
+    (v w : MgrView) : Type 0 where
   pub tries : List AskOutcome
   pub undecided : AreUndecided tries
   pub made : OnlyAt (stripe_of key.number) (λ x y. HasMade (asks key (tries ++ last)) x y × Then y) v w
@@ -70,26 +72,38 @@ AsksUntil key v Spent w = HasAskedOn key [] MetSpent v w
 AsksUntil key v Shut w = ⊥
 AsksUntil key v Crowded w = ⊥
 
--- A flag was registered for this opening and direction, with this mark, and it waited. The event that was named was put. Then the flag was asked for until the last answer, where there is one, and this is so of the flag and of what the pass knows of its stripe
-pub record HasWaitedFor (capacity : ℕ) (o : Opening) (d : Dir) (m : Option ℕ) (last : List AskOutcome) (Then : OwnFlag → View Entry → Type 0) (v : MgrView) (q : View Move) (w : MgrView) (r : View Move) : Type 0 where
+-- A flag was registered for this opening and direction, with this mark, and it waited. The event that was
+-- named was put. Then the flag was asked for until the last answer, where there is one, and this is so of the
+-- flag and of what the pass knows of its stripe
+pub record HasWaitedFor (capacity : ℕ) (o : Opening) (d : Dir) (m : Option ℕ) (last : List AskOutcome)
+    (Then : OwnFlag → View Entry → Type 0) (v : MgrView) (q : View Move) (w : MgrView)
+    (r : View Move) : Type 0 where
   pub key : Key
   pub named : Option EventName
   pub tries : List AskOutcome
   pub undecided : AreUndecided tries
   pub put : HasPutNamed capacity named q r
   pub made : (let flag : OwnFlag = record { opening = o; dir = d; mark = m; key = key; named = named } in
-      OnlyAt (stripe_of o.fd) (λ x y. HasMade (registers flag ∷ asks key (tries ++ last)) x y × Then flag y) v w)
+      OnlyAt (stripe_of o.fd)
+      (λ x y. HasMade (registers flag ∷ asks key (tries ++ last)) x y × Then flag y) v w)
 
 -- the flag couldn't be registered, or a later call found its cell spent
 abbrev pub HasMetSpent : ℕ → Opening → Dir → Option ℕ → MgrView → View Move → MgrView → View Move → Type 0
 HasMetSpent capacity o d m v q w r =
-    ((r ≡ q) × (EnteredAt (stripe_of o.fd) (Register o d m Flag Registers.Spent) v w ⊎ SpentAt (stripe_of o.fd) v w))
+    ((r ≡ q)
+    × (EnteredAt (stripe_of o.fd) (Register o d m Flag Registers.Spent) v w ⊎ SpentAt (stripe_of o.fd) v w))
     ⊎ HasWaitedFor capacity o d m [] (λ flag y. MetSpent y) v q w r
 
 -- what each answer of a wait says
-abbrev pub HasWaited : ℕ → Opening → Dir → Option ℕ → MgrView → View Move → WaitOut → MgrView → View Move → Type 0
-HasWaited capacity o d m v q (Ready marks) w r = HasWaitedFor capacity o d m (Asked.Ran d marks ∷ []) (λ flag y. FlagRan flag marks (past_in y.seen)) v q w r
-HasWaited capacity o d m v q Closed w r = HasWaitedFor capacity o d m (Asked.Closed ∷ []) (λ flag y. WasShut flag (past_in y.seen)) v q w r
-HasWaited capacity o d m v q Shut w r = EnteredAt (stripe_of o.fd) (Register o d m Flag Registers.Shut) v w × (r ≡ q)
-HasWaited capacity o d m v q Crowded w r = EnteredAt (stripe_of o.fd) (Register o d m Flag Registers.Crowded) v w × (r ≡ q)
+abbrev pub HasWaited : ℕ → Opening → Dir → Option ℕ → MgrView → View Move → WaitOut
+    → MgrView → View Move → Type 0
+HasWaited capacity o d m v q (Ready marks) w r =
+    HasWaitedFor capacity o d m
+    (Asked.Ran d marks ∷ []) (λ flag y. FlagRan flag marks (past_in y.seen)) v q w r
+HasWaited capacity o d m v q Closed w r =
+    HasWaitedFor capacity o d m (Asked.Closed ∷ []) (λ flag y. WasShut flag (past_in y.seen)) v q w r
+HasWaited capacity o d m v q Shut w r =
+    EnteredAt (stripe_of o.fd) (Register o d m Flag Registers.Shut) v w × (r ≡ q)
+HasWaited capacity o d m v q Crowded w r =
+    EnteredAt (stripe_of o.fd) (Register o d m Flag Registers.Crowded) v w × (r ≡ q)
 HasWaited capacity o d m v q Spent w r = HasMetSpent capacity o d m v q w r

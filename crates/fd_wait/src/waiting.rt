@@ -51,7 +51,8 @@ pub fn wait<T: Load, R: Wait>(
     requires own { AreOf mgr.now queue.now passes.old }
     ensures own { AreOf mgr.now queue.now passes.new }
     ensures hand { passes.new.hand ≡ passes.old.hand }
-    ensures waited { HasWaited (capacity_of queue.now) opening dir mark (mgr_view passes.old.mgr) (view_of passes.old.queue) result (mgr_view passes.new.mgr) (view_of passes.new.queue) }
+    ensures waited { HasWaited (capacity_of queue.now) opening dir mark (mgr_view passes.old.mgr)
+        (view_of passes.old.queue) result (mgr_view passes.new.mgr) (view_of passes.new.queue) }
 {
     // Laws of legal histories, for the proof: they do nothing when run.
     legal_runs_once();

@@ -1,4 +1,1 @@
-pub mod Lists
-pub mod Sharing
-pub mod Levels
 mod Makes

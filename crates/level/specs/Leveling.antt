@@ -1,4 +1,5 @@
--- To be believed: what several passes of one cell have seen and made together, said of what each of them knows.
+-- To be believed: what several passes of one cell have seen and made together, said of
+-- what each of them knows.
 use Rattle.std.specs.Prelude.{◌≡◌, ℕ, List, [], map, slice_get, Some, Bool, false, All}
 use Rattle.std.specs.List.{Contains}
 use mathlib.Core.List.{IsPrefix}
@@ -36,32 +37,37 @@ module _ {E : Type 0} where
   abbrev pub AreFresh : List ℕ → List (View E) → Type 0
   AreFresh name vs = All (IsFresh name) vs
 
-  -- One pass told another what it had seen: what was split off the one, which knew v and then v', was joined into the other, which knew w and then w'
+  -- One pass told another what it had seen: what was split off the one, which knew v and then v', was joined
+  -- into the other, which knew w and then w'
   pub record HasShared (v w v' w' : View E) : Type 0 where
     pub between : View E
     pub split : IsSplit v v' between
     pub joined : IsJoined w between w'
 
-  -- The passes have seen one history, and each of its entries is one pass's own: whatever entries weigh, the passes' own weigh together what the history weighs
+  -- The passes have seen one history, and each of its entries is one pass's own: whatever entries weigh, the
+  -- passes' own weigh together what the history weighs
   pub record IsLevel (vs : List (View E)) : Type 0 where
     pub log : Log E
     pub saw : All (λ v. v.seen ≡ log) vs
     pub sums : (f : ℕ × E → ℕ) → weigh (λ v. weigh f (own_entries v)) vs ≡ weigh f log
 
-  -- Passes that knew vs were brought level, and know ws. The history is one that some pass had seen before, so what held of each that had been seen holds of it
+  -- Passes that knew vs were brought level, and know ws. The history is one that some pass had seen before,
+  -- so what held of each that had been seen holds of it
   pub record BroughtLevel (vs ws : List (View E)) : Type 0 where
     pub level : IsLevel ws
     pub from : Contains (map seen_by vs) level.log
 
   -- each pass has seen at least what it had seen
   abbrev pub Grows : List (Log E) → List (Log E) → Type 0
-  Grows ls ms = (k : ℕ) (x : Log E) → slice_get ls k ≡ Some x → (y : Log E) × (slice_get ms k ≡ Some y) × IsPrefix x y
+  Grows ls ms =
+      (k : ℕ) (x : Log E) → slice_get ls k ≡ Some x → (y : Log E) × (slice_get ms k ≡ Some y) × IsPrefix x y
 
   -- what a pass knows of its part, and of its `fetch_or` steps
   abbrev pub tries_of : View E → List ℕ × ℕ × ℕ × Bool
   tries_of v = (v.name, v.tries, v.found, v.met_spent)
 
-  -- The passes at the same places made no call: their own entries and their tries are what they were, their seats are shared as before, and none has forgotten what it had seen
+  -- The passes at the same places made no call: their own entries and their tries are what they were, their
+  -- seats are shared as before, and none has forgotten what it had seen
   pub record KeepsOwn (vs ws : List (View E)) : Type 0 where
     pub own : map own_entries ws ≡ map own_entries vs
     pub tries : map tries_of ws ≡ map tries_of vs

@@ -1,4 +1,5 @@
--- To be believed: what contracts know of a pass, or of several that are held together, and what it says that they shared or were brought level.
+-- To be believed: what contracts know of a pass, or of several that are held together, and what it says that
+-- they shared or were brought level.
 use Rattle.std.specs.Prelude.{◌≡◌, ℕ, List, map, All}
 use Rattle.turn_cell.specs.declared.view.View.{View}
 use Rattle.turn_cell.specs.View.{first_view}

@@ -1,4 +1,4 @@
-// What holds of the seats of passes. The law is the contract of a function that does nothing when it runs.
+//! What holds of the seats of passes. The law is the contract of a function that does nothing when it runs.
 ghost use Rattle.std.specs.Prelude.{◌≡◌, ℕ, Some, List, [], ◌∷◌, ◌++◌, slice_get, slice_set};
 ghost use Rattle.level.specs.Meanings.{IsFirstPass, WereSplit, KeepSeats, HoldAllSeats};
 

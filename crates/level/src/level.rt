@@ -1,4 +1,4 @@
-// Passes that are brought to one history of each of their cells.
+//! Passes that are brought to one history of each of their cells.
 ghost use Rattle.std.specs.Prelude.{◌∷◌, length};
 ghost use Rattle.level.specs.Meanings.{AllAreOf, HoldAllSeats, KeepOwn, AreBroughtLevel};
 ghost use Rattle.level.specs.Gathering.{AreGathered, HaveTold};
@@ -27,7 +27,8 @@ fn gather<P: Share>(of: &P::Of, first: &mut P, others: &mut [P])
     requires own { AllAreOf P.meaning of.now (first.old ∷ others.old) }
     ensures own { AllAreOf P.meaning of.now (first.new ∷ others.new) }
     ensures keeps { KeepOwn P.meaning (first.old ∷ others.old) (first.new ∷ others.new) }
-    ensures gathered { AreGathered P.meaning (first.old ∷ others.old) (length (first.new ∷ others.new)) (first.new ∷ others.new) }
+    ensures gathered { AreGathered P.meaning (first.old ∷ others.old) (length (first.new ∷ others.new))
+        (first.new ∷ others.new) }
 {
     for other in others {
         P::share(of, other, first);
@@ -39,7 +40,8 @@ fn spread<P: Share>(of: &P::Of, first: &mut P, others: &mut [P])
     requires own { AllAreOf P.meaning of.now (first.old ∷ others.old) }
     ensures own { AllAreOf P.meaning of.now (first.new ∷ others.new) }
     ensures keeps { KeepOwn P.meaning (first.old ∷ others.old) (first.new ∷ others.new) }
-    ensures told { HaveTold P.meaning (first.old ∷ others.old) (length (first.new ∷ others.new)) (first.new ∷ others.new) }
+    ensures told { HaveTold P.meaning (first.old ∷ others.old) (length (first.new ∷ others.new))
+        (first.new ∷ others.new) }
 {
     for other in others {
         P::share(of, first, other);

@@ -20,7 +20,7 @@ mod laws;
 
 pub use laws::split_passes_hold_all_seats;
 pub use level::bring_level;
-pub use make::shared_out;
+pub use make::cell_with_passes;
 pub use share::Share;
 
 #[cfg(test)]

@@ -1,12 +1,13 @@
-// A cell with a pass for each of so many threads.
+//! A cell with a pass for each of this many threads.
 ghost use Rattle.std.specs.Prelude.{◌≡◌, ◌<◌, IfOk, [], length};
 ghost use Rattle.level.specs.Leveling.{AreOf, views_of, HoldsEachOnce, AreFresh};
 
 use std::alloc::{AllocError, Global};
 use turn_cell::{Part, Pass, TurnCell};
 
-/// A cell round a part that stands for no calls, and `count` passes of it. Each seat is one pass's, and none has seen anything.
-pub fn shared_out<P: Part>(
+/// A cell round a part that stands for no calls, and `count` passes of it. Each seat is one
+/// pass's, and none has seen anything.
+pub fn cell_with_passes<P: Part>(
     alloc: Global,
     part: P,
     count: usize,

@@ -1,4 +1,5 @@
-// Telling one pass what another has seen: a pass is split off the one and joined into the other. It has made no call, so nobody's own entries change.
+//! Telling one pass what another has seen: a pass is split off the one and joined into the other. It has made
+//! no call, so nobody's own entries change.
 use turn_cell::{Part, Pass, TurnCell};
 
 /// A pass, or several that are held together, which can be told what another of its kind has seen.

@@ -1,9 +1,9 @@
-// A part that counts its calls, shared by several threads.
+//! A part that counts its calls, shared by several threads.
 ghost use Rattle.std.specs.Prelude.{◌≡◌, ◌<◌, [], length, map};
 ghost use Rattle.level.specs.Leveling.{AreOf, views_of, classes_of};
 ghost use Rattle.turn_cell.specs.Calls.{IsOf, view_of};
 
-use super::*;
+use crate::{bring_level, cell_with_passes};
 use std::sync::Wait;
 use std::test::Fail;
 use std::thread::{Threads, for_each_mut};
@@ -48,7 +48,7 @@ fn no_ticks() -> Ticks
     Ticks { count: 0 }
 }
 
-// Each pass makes its calls in a thread of its own.
+/// Each pass makes its calls in a thread of its own.
 fn tick_in_threads<R: Threads + Wait + Sync>(
     rt: &R,
     cell: &TurnCell<Ticks>,
@@ -57,7 +57,8 @@ fn tick_in_threads<R: Threads + Wait + Sync>(
     requires { AreOf cell.now passes.old.items }
     ensures own { AreOf cell.now passes.new.items }
     ensures count { length passes.new.items ≡ length passes.old.items }
-    ensures classes { map classes_of (views_of passes.new.items) ≡ map classes_of (views_of passes.old.items) }
+    ensures classes { map classes_of (views_of passes.new.items)
+        ≡ map classes_of (views_of passes.old.items) }
 {
     for_each_mut(
         rt,
@@ -65,7 +66,8 @@ fn tick_in_threads<R: Threads + Wait + Sync>(
         THREADS,
         &|_i: usize, mine: &mut Pass<Ticks, u64>| -> ()
             requires { IsOf cell.now mine.old }
-            ensures { IsOf cell.entry.now mine.new × ((view_of mine.new).classes ≡ (view_of mine.old).classes) }
+            ensures { IsOf cell.entry.now mine.new
+                × ((view_of mine.new).classes ≡ (view_of mine.old).classes) }
         { tick(rt, cell, mine) },
     );
 }
@@ -80,7 +82,7 @@ fn tick<R: Wait>(rt: &R, cell: &TurnCell<Ticks>, pass: &mut Pass<Ticks, u64>)
     }
 }
 
-// Makes one call more with the first pass.
+/// Makes one call more with the first pass.
 fn tick_once<R: Wait>(
     rt: &R,
     cell: &TurnCell<Ticks>,
@@ -98,7 +100,7 @@ fn tick_once<R: Wait>(
 
 #[test]
 fn passes_of_all_threads_are_brought_level(rt: HostRuntime) -> Result<(), Fail> {
-    let (cell, mut passes) = shared_out(rt.alloc(), no_ticks(), THREADS)?;
+    let (cell, mut passes) = cell_with_passes(rt.alloc(), no_ticks(), THREADS)?;
     tick_in_threads(&rt, &cell, &mut passes);
     bring_level(&cell, passes.as_mut_slice());
     assert_eq!(rt; passes.len(), THREADS);

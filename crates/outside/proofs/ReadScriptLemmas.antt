@@ -1,5 +1,6 @@
 -- The events of the reads of a link in memory, one place on.
-use Rattle.std.proofs.Common.{◌≡◌, ◌≢◌, ℕ, zero, suc, ◌+◌, ◌-◌, ◌<◌, List, [], ◌∷◌, ◌++◌, length, take, drop, min, refl, sym, ap, ◌∙◌, append_assoc, arith}
+use Rattle.std.proofs.Common.{◌≡◌, ◌≢◌, ℕ, zero, suc, ◌+◌, ◌-◌, ◌<◌, List, [], ◌∷◌, ◌++◌, length, take, drop}
+use Rattle.std.proofs.Common.{min, refl, sym, ap, ◌∙◌, append_assoc, arith}
 use Rattle.std.proofs.Math.Seq.{take-add}
 use Rattle.std.proofs.lemmas.Bool.Decides.{nat_tests}
 use Rattle.std.proofs.lemmas.Grind.{common_steps}
@@ -16,7 +17,7 @@ within_first (Events.Piece bytes ∷ events) all = grind (arith, nat_tests)
 within_first (Events.NotYet ∷ events) all = refl
 within_first (Events.Fail ∷ events) all = refl
 
--- of events that are filled those behind a place are
+-- of events that are filled those after a place are
 pub filled_behind : (n : ℕ) (events : List ReadEvent) → EachFilled events → EachFilled (drop n events)
 filled_behind zero events all = all
 filled_behind (suc n) [] all = all
@@ -24,8 +25,9 @@ filled_behind (suc n) (Events.Piece bytes ∷ events) all = filled_behind n even
 filled_behind (suc n) (Events.NotYet ∷ events) all = filled_behind n events all
 filled_behind (suc n) (Events.Fail ∷ events) all = filled_behind n events all
 
--- behind an event that is done stands the next one, of which nothing was given
-pub next_place : (events : List ReadEvent) (done : ℕ) → done < length events → EachFilled events → IsPlace events (done + 1) 0
+-- after an event that is done stands the next one, of which nothing was given
+pub next_place : (events : List ReadEvent) (done : ℕ) → done < length events → EachFilled events
+    → IsPlace events (done + 1) 0
 next_place events done inside all = record {
   inside = omega arith;
   within = within_first (drop (done + 1) events) (filled_behind (done + 1) events all);
@@ -33,23 +35,32 @@ next_place events done inside all = record {
 }
 
 -- a rest of at least one byte stays
-pub rest_stays : (rest : List ℕ) (more : List ReadStep) → 0 < length rest → with_rest rest more ≡ Gives rest ∷ more
+pub rest_stays : (rest : List ℕ) (more : List ReadStep) → 0 < length rest
+    → with_rest rest more ≡ Gives rest ∷ more
 rest_stays [] more some = absurd (omega arith)
 rest_stays (byte ∷ rest) more some = refl
 
 -- a part of a piece was given, and its rest stays
-pub part_plays : (bytes buf : List ℕ) (given n : ℕ) (more : List ReadStep) → given < length bytes → n ≡ min (length bytes - given) (length buf)
+pub part_plays : (bytes buf : List ℕ) (given n : ℕ) (more : List ReadStep) → given < length bytes
+    → n ≡ min (length bytes - given) (length buf)
     → take n buf ≡ take n (drop given bytes) → given + n ≢ length bytes
     → PlaysRead (Gives (drop given bytes) ∷ more) (Gives (drop (given + n) bytes) ∷ more) (Reads.Got n) buf
 part_plays bytes buf given n more inside count same some =
     let size : length (drop given bytes) ≡ length bytes - given = grind (arith, common_steps) in
-    let n_is : min (length (drop given bytes)) (length buf) ≡ n = ap (λ k. min k (length buf)) size ∙ sym count in
+    let n_is : min (length (drop given bytes)) (length buf) ≡ n =
+    ap (λ k. min k (length buf)) size ∙ sym count in
     let rest : 0 < length (drop (given + n) bytes) = grind (arith, common_steps) in
-    rw n_is (refl, same, sym (rest_stays (drop (given + n) bytes) more rest) ∙ ap (λ (t : List ℕ). with_rest t more) (sym (drop-drop n given bytes)))
+    rw n_is (
+      refl,
+      same,
+      sym (rest_stays (drop (given + n) bytes) more rest)
+          ∙ ap (λ (t : List ℕ). with_rest t more) (sym (drop-drop n given bytes)),
+    )
 
 -- a part of a piece comes to what was given before
 pub part_gives : (before bytes buf : List ℕ) (given n : ℕ) → take n buf ≡ take n (drop given bytes)
     → before ++ take (given + n) bytes ≡ before ++ take given bytes ++ take n buf
 part_gives before bytes buf given n same =
-    ap (λ (t : List ℕ). before ++ t) (take-add given n bytes ∙ ap (λ (t : List ℕ). take given bytes ++ t) (sym same))
+    ap (λ (t : List ℕ). before ++ t)
+    (take-add given n bytes ∙ ap (λ (t : List ℕ). take given bytes ++ t) (sym same))
     ∙ sym (append_assoc before (take given bytes) (take n buf))

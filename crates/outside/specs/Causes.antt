@@ -1,5 +1,6 @@
 -- To be believed: what contracts know of a link, and what a read and a write make of it.
-use Rattle.std.specs.Prelude.{◌≡◌, ℕ, ◌≤◌, Bool, true, false, ◌||◌, IsTrue, List, [], ◌++◌, Option, IfSome, option_map, take, length}
+use Rattle.std.specs.Prelude.{◌≡◌, ℕ, ◌≤◌, Bool, true, false, ◌||◌, IsTrue, List, [], ◌++◌, Option, IfSome}
+use Rattle.std.specs.Prelude.{option_map, take, length}
 use Rattle.outside.specs.declared.link.ReadOut.{ReadOut}
 use Rattle.outside.specs.declared.link.ReadOut.TheVariants.{Got, End}
 use Rattle.outside.specs.declared.link.ReadOut.TheVariants as Reads

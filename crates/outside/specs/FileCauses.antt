@@ -1,5 +1,6 @@
 -- To be believed: what contracts know of files, and what each call makes of it.
-use Rattle.std.specs.Prelude.{◌≡◌, ℕ, ◌≤◌, Bool, List, [], ◌∷◌, ◌++◌, take, drop, length, Option, Some, None, IsSomeAnd, option_map}
+use Rattle.std.specs.Prelude.{◌≡◌, ℕ, ◌≤◌, Bool, List, [], ◌∷◌, ◌++◌, take, drop, length, Option, Some, None}
+use Rattle.std.specs.Prelude.{IsSomeAnd, option_map}
 use Rattle.outside.specs.declared.files.RootOut.{RootOut}
 use Rattle.outside.specs.declared.files.RootOut.TheVariants as Roots
 use Rattle.outside.specs.declared.files.FindOut.{FindOut}
@@ -59,7 +60,8 @@ looked_after Finds.Failed path looked = option_map (λ paths. paths ++ path ∷ 
 
 -- the bytes at the front of the buffer are those that the folder has for this path from a place on
 abbrev pub ReadsFrom : Folder → List ℕ → ℕ → List ℕ → PartOut → Type 0
-ReadsFrom folder path at buf (Parts.Got n) = IsSomeAnd (file_at folder path) (λ f. take n buf ≡ take n (drop at f.0))
+ReadsFrom folder path at buf (Parts.Got n) =
+    IsSomeAnd (file_at folder path) (λ f. take n buf ≡ take n (drop at f.0))
 ReadsFrom folder path at buf Parts.Failed = Unit {0}
 
 -- a part that is given has at least one byte, within the buffer
@@ -90,7 +92,8 @@ pub record ReadPart (result : PartOut) (old new : FilesTold) : Type 0 where
   pub faulted : PartFaults result old.faults new.faults
   pub same : new ≡ record old { faults = new.faults }
 
--- what looks and reads leave of files: the root, whether they ever fail, and a count of faults that never falls
+-- what looks and reads leave of files: the root, whether they ever fail, and a count of
+-- faults that never falls
 pub record KeepsFiles (old new : FilesTold) : Type 0 where
   pub later : old.faults ≤ new.faults
   pub rooted : new.rooted ≡ old.rooted

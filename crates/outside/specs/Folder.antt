@@ -22,4 +22,6 @@ folder_of entries = finite.from_entries entries
 
 -- where the folder is told, it has a file of this size and time at the path
 abbrev pub HasFile : Option Folder → List ℕ → ℕ → ℕ → Type 0
-HasFile folder path size mtime = IfSome folder (λ f. IsSomeAnd (file_at f path) (λ content. (size ≡ length content.0) × (mtime ≡ content.1)))
+HasFile folder path size mtime =
+    IfSome folder
+    (λ f. IsSomeAnd (file_at f path) (λ content. (size ≡ length content.0) × (mtime ≡ content.1)))

@@ -25,7 +25,8 @@ Plan = ℕ × List ℕ
 
 -- no two plans have one number: plans that have stand at one place
 abbrev pub HaveNumbersApart : List Plan → Type 0
-HaveNumbersApart plans = (i j : ℕ) (p q : Plan) → slice_get plans i ≡ Some p → slice_get plans j ≡ Some q → p.0 ≡ q.0 → i ≡ j
+HaveNumbersApart plans =
+    (i j : ℕ) (p q : Plan) → slice_get plans i ≡ Some p → slice_get plans j ≡ Some q → p.0 ≡ q.0 → i ≡ j
 
 -- where the plans are told, a link's plan is the one at this place
 abbrev pub IsPlannedAt : Option (List Plan) → ℕ → Option Plan → Type 0

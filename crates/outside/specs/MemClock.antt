@@ -1,5 +1,6 @@
 -- To be believed: a clock that hands out a list of moments.
-use Rattle.std.specs.Prelude.{◌==◌, ℕ, zero, suc, ◌-◌, ◌+◌, List, [], ◌∷◌, ◌++◌, Option, Some, None, if◌then◌else◌, length, min, nat_lt, slice_index}
+use Rattle.std.specs.Prelude.{◌==◌, ℕ, zero, suc, ◌-◌, ◌+◌, List, [], ◌∷◌, ◌++◌, Option, Some, None}
+use Rattle.std.specs.Prelude.{if◌then◌else◌, length, min, nat_lt, slice_index}
 use Rattle.outside.specs.Counts.{full}
 use Rattle.outside.specs.Moments.{ClockTold}
 
@@ -8,7 +9,7 @@ pub record ClockScript : Type 0 where
   pub moments : List ℕ
   pub asked : ℕ
 
--- the moment that comes after so many: those of the list in order, and then the last one again and again
+-- the moment that comes after this many: those of the list in order, and then the last one again and again
 abbrev pub moment_after : List ℕ → ℕ → ℕ
 moment_after moments asked = slice_index moments (min asked (length moments - 1))
 

@@ -1,5 +1,6 @@
 -- To be believed: a link in memory, what it will still do and what it has done.
-use Rattle.std.specs.Prelude.{◌≡◌, ℕ, ◌+◌, ◌-◌, ◌≤◌, Bool, false, List, [], ◌∷◌, ◌++◌, Some, None, if◌then◌else◌, drop, length, min, nat_le}
+use Rattle.std.specs.Prelude.{◌≡◌, ℕ, ◌+◌, ◌-◌, ◌≤◌, Bool, false, List, [], ◌∷◌, ◌++◌, Some, None}
+use Rattle.std.specs.Prelude.{if◌then◌else◌, drop, length, min, nat_le}
 use Rattle.outside.specs.declared.link.WriteOut.{WriteOut}
 use Rattle.outside.specs.declared.link.WriteOut.TheVariants as Writes
 use Rattle.outside.specs.declared.piece_link.WriteEvent.{WriteEvent}
@@ -21,7 +22,12 @@ pub record LinkState : Type 0 where
 
 -- what a link stands for
 abbrev pub state_of : PieceLink → LinkState
-state_of link = record { reads = link.reads; writes = drop link.written link.writes.items; room = link.room; ended = link.ended }
+state_of link = record {
+  reads = link.reads;
+  writes = drop link.written link.writes.items;
+  room = link.room;
+  ended = link.ended;
+}
 
 -- it tells its bytes and no plan
 abbrev pub told_of : PieceLink → LinkTold
@@ -36,7 +42,14 @@ told_of link = record {
 
 -- a link in memory of which nothing was asked yet tells so
 abbrev pub fresh_told : LinkTold
-fresh_told = record { taken = Some []; sent = Some []; ended = Some false; plan = None; faults = nothing_counted; waits = nothing_counted }
+fresh_told = record {
+  taken = Some [];
+  sent = Some [];
+  ended = Some false;
+  plan = None;
+  faults = nothing_counted;
+  waits = nothing_counted;
+}
 
 -- a link of which nothing was asked yet
 abbrev pub fresh_link : List ReadEvent → List WriteEvent → ℕ → LinkState
@@ -51,7 +64,7 @@ fresh_link reads writes size = record {
 abbrev pub taken_if_free : ℕ → ℕ → WriteOut
 taken_if_free n free = if nat_le n free then Writes.Took n else Writes.Failed
 
--- what a write answers to a piece of a length, where so many bytes are free
+-- what a write answers to a piece of a length, where this many bytes are free
 abbrev pub write_answer : List WriteEvent → ℕ → ℕ → WriteOut
 write_answer [] size free = taken_if_free size free
 write_answer (Events.Take n ∷ more) size free = taken_if_free (min n size) free
@@ -63,7 +76,8 @@ abbrev pub FitsIn : WriteOut → ℕ → RoomState → Type 0
 FitsIn (Writes.Took n) size room = (n ≤ size) × (length room.stored + n ≤ room.size)
 FitsIn _ size room = Unit {0}
 
--- a write answers what the next event says, stores what it takes and leaves the events behind it; what concerns reads stays
+-- a write answers what the next event says, stores what it takes and leaves the events
+-- after it; what concerns reads stays
 pub record PlaysWrite (old new : LinkState) (piece : List ℕ) (result : WriteOut) : Type 0 where
   pub answer : result ≡ write_answer old.writes (length piece) (old.room.size - length old.room.stored)
   pub same : new ≡ record old {

@@ -1,5 +1,6 @@
 -- To be believed: what a link in memory will give, read by read.
-use Rattle.std.specs.Prelude.{◌≡◌, ℕ, ◌<◌, ◌≤◌, Bool, true, IsTrue, List, [], ◌∷◌, ◌++◌, nat_lt, take, drop, length, map, min}
+use Rattle.std.specs.Prelude.{◌≡◌, ℕ, ◌<◌, ◌≤◌, Bool, true, IsTrue, List, [], ◌∷◌, ◌++◌, nat_lt, take, drop}
+use Rattle.std.specs.Prelude.{length, map, min}
 use Rattle.std.specs.List.{flat_map, list_all}
 use Rattle.outside.specs.declared.link.ReadOut.{ReadOut}
 use Rattle.outside.specs.declared.link.ReadOut.TheVariants as Reads
@@ -23,7 +24,7 @@ piece_of (Events.Piece bytes) = bytes.items
 piece_of Events.NotYet = []
 piece_of Events.Fail = []
 
--- what is left of an event of which so many bytes were given
+-- what is left of an event of which this many bytes were given
 abbrev pub step_behind : ReadEvent → ℕ → ReadStep
 step_behind (Events.Piece bytes) n = Gives (drop n bytes.items)
 step_behind Events.NotYet n = Waits
@@ -48,7 +49,7 @@ abbrev pub with_rest : List ℕ → List ReadStep → List ReadStep
 with_rest [] more = more
 with_rest (byte ∷ bytes) more = Gives (byte ∷ bytes) ∷ more
 
--- the steps of which the first one has lost so many bytes
+-- the steps of which the first one has lost this many bytes
 abbrev pub steps_behind : List ReadEvent → ℕ → List ReadStep
 steps_behind [] n = []
 steps_behind (event ∷ events) n = step_behind event n ∷ steps_of events
@@ -58,7 +59,7 @@ abbrev pub bytes_before : List ReadEvent → ℕ → List ℕ
 bytes_before [] n = []
 bytes_before (event ∷ events) n = take n (piece_of event)
 
--- so many bytes of the first event were given, and fewer than it has
+-- this many bytes of the first event were given, and fewer than it has
 abbrev pub IsWithin : List ReadEvent → ℕ → Type 0
 IsWithin [] n = n ≡ 0
 IsWithin (Events.Piece bytes ∷ events) n = n < length bytes.items
@@ -78,7 +79,7 @@ state_at events done given = record {
   left = steps_behind (drop done events) given;
 }
 
--- A read gives as many bytes of the next piece as fit, and its rest stays for the next read; behind the last
+-- A read gives as many bytes of the next piece as fit, and its rest stays for the next read; after the last
 -- step the input is over.
 abbrev pub PlaysRead : List ReadStep → List ReadStep → ReadOut → List ℕ → Type 0
 PlaysRead [] new result buf = (result ≡ Reads.End) × (new ≡ [])

@@ -11,4 +11,5 @@ root_told (Some r) = Some (string_bytes r.text, r.answer)
 
 -- what files tell that keep their root, their counts and the paths that were looked for so
 abbrev pub told_by : Option Rooted → ℕ → Option (List (List ℕ)) → ℕ → Bool → FilesTold
-told_by rooted finds looked faults firm = record { rooted = root_told rooted; finds = finds; looked = looked; faults = faults; firm = firm }
+told_by rooted finds looked faults firm =
+    record { rooted = root_told rooted; finds = finds; looked = looked; faults = faults; firm = firm }

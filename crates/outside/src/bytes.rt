@@ -1,11 +1,12 @@
-// Bytes kept in memory: the part of them that fits a buffer, and room that was taken before it is needed.
+//! Bytes kept in memory: the part of them that fits a buffer, and room that was taken before it is needed.
 ghost use Rattle.std.specs.Prelude.{◌≡◌, ◌<◌, ◌≤◌, ◌+◌, ◌-◌, ◌++◌, [], IfOk, length, take, drop, min};
 ghost use Rattle.outside.specs.Room.{RoomState};
 
 use std::alloc::{AllocError, Global};
 use std::marker::Model;
 
-/// Copies as many of the bytes from place `at` on as fit to the front of the buffer, and says how many. The place lies within the bytes, and the buffer isn't empty.
+/// Copies as many of the bytes from place `at` on as fit to the front of the buffer, and says how many. The
+/// place lies within the bytes, and the buffer isn't empty.
 pub fn copy_from(bytes: &[u8], at: usize, buf: &mut [u8]) -> usize
     requires inside { at < length bytes.now }
     requires room { 0 < length buf.old }
@@ -19,7 +20,7 @@ pub fn copy_from(bytes: &[u8], at: usize, buf: &mut [u8]) -> usize
     n
 }
 
-/// Room for so many bytes, which is taken at its making.
+/// Room for this many bytes, which is taken at its making.
 #[derive(Drop)]
 pub struct Room {
     bytes: Vec<u8>,
@@ -53,7 +54,7 @@ impl Room {
         self.bytes.len() - self.used
     }
 
-    /// Stores a piece that fits behind what is stored.
+    /// Stores a piece that fits after what is stored.
     pub fn store(&mut self, piece: &[u8])
         requires { length self.old.stored + length piece.now ≤ self.old.size }
         ensures { self.new ≡ record self.old { stored = self.old.stored ++ piece.now } }

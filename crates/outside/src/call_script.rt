@@ -1,4 +1,4 @@
-// Which calls of a memory form fail, by their numbers, so that a test can let any one of them fail.
+//! Which calls of a memory form fail, by their numbers, so that a test can let any one of them fail.
 ghost use Rattle.std.specs.Prelude.{◌≡◌, ◌↔◌, IsTrue};
 ghost use Rattle.outside.specs.CallScript.{CallState, NextFails, called};
 

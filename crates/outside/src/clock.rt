@@ -1,4 +1,4 @@
-// The time, as far as an answer's date and the age of what is kept need it.
+//! The time, as far as an answer's date and the age of what is kept need it.
 ghost use Rattle.std.specs.Prelude.{◌≡◌, [], ◌∷◌, IfSome};
 ghost use Rattle.outside.specs.Moments.{ClockTold, Gives};
 

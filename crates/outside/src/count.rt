@@ -1,4 +1,4 @@
-// A count of what happened. It never falls, and stands still at the end of its type.
+//! A count of what happened. It never falls, and stands still at the end of its type.
 ghost use Rattle.std.specs.Prelude.{◌≡◌, ◌≤◌};
 ghost use Rattle.outside.specs.Counts.{full, more_by_one};
 

@@ -1,5 +1,5 @@
-// A folder of files. What it has is a meaning of the type, so that all values of the type tell one folder
-// and a fact about a file can outlive the value that found it.
+//! A folder of files. What it has is a meaning of the type, so that all values of the type tell one folder
+//! and a fact about a file can outlive the value that found it.
 ghost use Rattle.std.specs.Prelude.{◌≡◌, ◌≤◌, ◌<◌, ◌↔◌, ℕ, List, Option, IfSome, IsSomeAnd, IsTrue, length};
 ghost use Rattle.outside.specs.Counts.{full};
 ghost use Rattle.outside.specs.Folder.{Folder, file_at};
@@ -45,7 +45,7 @@ pub enum FindOut<X> {
 /// What a read of a part of a file answers.
 #[derive(Clone, Copy, Debug, PartialEq, Eq)]
 pub enum PartOut {
-    /// So many bytes stand at the front of the buffer: at least one.
+    /// This many bytes stand at the front of the buffer: at least one.
     Got(usize),
     /// The files' count of faults rose.
     Failed,
@@ -79,7 +79,8 @@ pub trait Files {
     /// owes a buffer that isn't empty and a place within the file as it was found.
     fn read_at(&mut self, file: &mut Self::File, at: u64, buf: &mut [u8]) -> PartOut
         requires room { 0 < length buf.old }
-        requires inside { IfSome folder (λ f. IsSomeAnd (file_at f (file_path file.old)) (λ content. at < length content.0)) }
+        requires inside { IfSome folder
+            (λ f. IsSomeAnd (file_at f (file_path file.old)) (λ content. at < length content.0)) }
         ensures within { PartWithin result buf.new }
         ensures reads { IfSome folder (λ f. ReadsFrom f (file_path file.old) at buf.new result) }
         ensures path { file_path file.new ≡ file_path file.old }

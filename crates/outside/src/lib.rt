@@ -3,29 +3,39 @@
 //! thing, which tells its counts alone. A listener, which links come from, is a trait alone: its two forms
 //! belong to the pollers, in the crates above.
 //!
-//! The promise: a call answers that something failed or must wait only where a count of that very object rose.
+//! The promise: a call answers that something failed or must wait only where a count of
+//! that very object rose.
 #![tactic(auto)]
 
-mod bytes;
-mod call_script;
+// The traits.
 mod clock;
 mod count;
 mod files;
 mod link;
 mod listener;
+mod sink;
+
+// What the forms in memory are made of.
+mod bytes;
+mod call_script;
 mod looks;
+mod place;
+mod read_script;
+
+// The forms in memory.
 mod mem_clock;
 mod mem_files;
 mod mem_sink;
+mod piece_link;
+
+// What the adapters share.
+mod retry;
+mod rooted;
+
+// The adapters over the system.
 mod os_clock;
 mod os_file;
 mod os_files;
-mod piece_link;
-mod place;
-mod read_script;
-mod retry;
-mod rooted;
-mod sink;
 mod std_link;
 mod std_sink;
 

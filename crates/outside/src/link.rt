@@ -1,5 +1,5 @@
-// One connection. All that stands above knows it by what its answers say: bytes, an end, a wait or a fault,
-// and by two counts for each direction that show which of these the caller was told.
+//! One connection. All that stands above knows it by what its answers say: bytes, an end, a wait or a fault,
+//! and by two counts for each direction that show which of these the caller was told.
 ghost use Rattle.std.specs.Prelude.{◌≡◌, ◌<◌, Bool, length, IsTrue, is_some};
 ghost use Rattle.outside.specs.Counts.{AreCounts, nothing_counted};
 ghost use Rattle.outside.specs.Causes.{bytes_got, bytes_taken, FollowsPlan, GivesWithin, LinkTold, Read, TakesWithin, Wrote};
@@ -7,7 +7,7 @@ ghost use Rattle.outside.specs.Causes.{bytes_got, bytes_taken, FollowsPlan, Give
 /// What a read answers.
 #[derive(Clone, Copy, Debug, PartialEq, Eq)]
 pub enum ReadOut {
-    /// So many bytes stand at the front of the buffer: at least one.
+    /// This many bytes stand at the front of the buffer: at least one.
     Got(usize),
     /// The input is over.
     End,

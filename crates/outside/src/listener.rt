@@ -1,5 +1,5 @@
-// What new connections come from. Contracts know it by three counts and by how many answers in a row failed,
-// and where it tells its plans, each link that it gives is known before it comes.
+//! What new connections come from. Contracts know it by three counts and by how many answers in a row failed,
+//! and where it tells its plans, each link that it gives is known before it comes.
 ghost use Rattle.std.specs.Prelude.{◌≤◌, IfSome};
 ghost use Rattle.outside.specs.Counts.{full};
 ghost use Rattle.outside.specs.ListenCauses.{HasAccepted, HaveNumbersApart, IfAccepted, IsPlannedAt, IsUntouched, ListenerTold};
@@ -30,7 +30,8 @@ pub trait Listener {
     /// Gives the next connection, of which nothing was asked yet.
     fn accept(&mut self) -> AcceptOut<Self::Link>
         ensures untouched { IfAccepted result (λ link. IsUntouched (Self.Link.told link)) }
-        ensures planned { IfAccepted result (λ link. IsPlannedAt (told self.old).plans (told self.old).accepted (Self.Link.told link).plan) }
+        ensures planned { IfAccepted result
+            (λ link. IsPlannedAt (told self.old).plans (told self.old).accepted (Self.Link.told link).plan) }
         ensures accepted { HasAccepted result (told self.old) (told self.new) };
 
     ghost plans_apart: { (listener : Self) → IfSome (told listener).plans HaveNumbersApart };

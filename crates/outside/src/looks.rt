@@ -1,4 +1,4 @@
-// The paths that files in memory looked for, in order, so that they can tell them.
+//! The paths that files in memory looked for, in order, so that they can tell them.
 ghost use Rattle.std.specs.Prelude.{◌≡◌, [], ◌∷◌, ◌++◌, if◌then◌else◌, is_ok};
 
 use std::alloc::{AllocError, Global};

@@ -1,4 +1,4 @@
-// A clock in memory, which hands out moments that a test chose.
+//! A clock in memory, which hands out moments that a test chose.
 ghost use Rattle.std.specs.Prelude.{◌≡◌, ◌<◌, [], ◌∷◌, IfSome, length, vec_len};
 ghost use Rattle.outside.specs.Moments.{Gives};
 ghost use Rattle.outside.specs.MemClock.{clock_asked, moment_after, only_moment, told_of};

@@ -1,4 +1,4 @@
-// A folder of files in memory, which tells what it has and fails where a test wants it to.
+//! A folder of files in memory, which tells what it has and fails where a test wants it to.
 ghost use Rattle.std.specs.Prelude.{◌≡◌, ◌<◌, ◌==◌, ◌↔◌, ℕ, List, [], None, Some, IsSomeAnd, length, string_bytes};
 ghost use Rattle.outside.specs.Folder.{file_at};
 ghost use Rattle.outside.specs.FileCauses.{AskedRoot, FindsIn, FoundAt, Looked, ReadPart};
@@ -60,7 +60,13 @@ impl<K: Place> MemFiles<K> {
         requires { folder_in contents.items ≡ K.folder }
         ensures script { result.script ≡ record { failing = failing.items; calls = 0 } }
         ensures root { result.present ≡ present }
-        ensures told { ⟦<MemFiles<K> as Files>⟧.told result ≡ record { rooted = None; finds = 0; looked = Some []; faults = 0; firm = length failing.items == 0 } }
+        ensures told { ⟦<MemFiles<K> as Files>⟧.told result ≡ record {
+          rooted = None;
+          finds = 0;
+          looked = Some [];
+          faults = 0;
+          firm = length failing.items == 0;
+        } }
     {
         MemFiles {
             alloc,
@@ -91,14 +97,17 @@ impl<K: Place> Files for MemFiles<K> {
 
     ghost folder = { Some K.folder };
 
-    ghost told = { λ files. told_by files.rooted files.finds.n (Some files.looked) files.faults.n (length files.script.failing == 0) };
+    ghost told = { λ files.
+        told_by files.rooted files.finds.n (Some files.looked) files.faults.n
+        (length files.script.failing == 0) };
 
     ghost file_path = { λ file. string_bytes file.path };
 
     fn root(&mut self, root: &str) -> RootOut
         ensures plays { PlaysRoot self.old.script self.old.present result }
         ensures script { self.new.script ≡ called self.old.script }
-        ensures asked { AskedRoot result root.now (⟦<MemFiles<K> as Files>⟧.told self.old) (⟦<MemFiles<K> as Files>⟧.told self.new) }
+        ensures asked { AskedRoot result root.now (⟦<MemFiles<K> as Files>⟧.told self.old)
+            (⟦<MemFiles<K> as Files>⟧.told self.new) }
     {
         let fails = self.script.next_fails();
         let Ok(text) = String::from_str(self.alloc, root) else {
@@ -121,7 +130,8 @@ impl<K: Place> Files for MemFiles<K> {
         ensures at { FoundAt (λ file. string_bytes file.path) path.now result }
         ensures plays { PlaysFind self.old.script result }
         ensures script { self.new.script ≡ called self.old.script }
-        ensures looked { Looked result path.now (⟦<MemFiles<K> as Files>⟧.told self.old) (⟦<MemFiles<K> as Files>⟧.told self.new) }
+        ensures looked { Looked result path.now (⟦<MemFiles<K> as Files>⟧.told self.old)
+            (⟦<MemFiles<K> as Files>⟧.told self.new) }
     {
         self.finds.rise();
         let fails = self.script.next_fails();
@@ -147,12 +157,14 @@ impl<K: Place> Files for MemFiles<K> {
 
     fn read_at(&mut self, file: &mut MemOpen, at: u64, buf: &mut [u8]) -> PartOut
         requires room { 0 < length buf.old }
-        requires inside { IsSomeAnd (file_at K.folder (string_bytes file.old.path)) (λ content. at < length content.0) }
+        requires inside { IsSomeAnd (file_at K.folder (string_bytes file.old.path))
+            (λ content. at < length content.0) }
         ensures gives { GivesPart K.folder (string_bytes file.old.path) at buf.new result }
         ensures path { string_bytes file.new.path ≡ string_bytes file.old.path }
         ensures plays { (result ≡ PartOut.Failed) ↔ NextFails self.old.script }
         ensures script { self.new.script ≡ called self.old.script }
-        ensures read { ReadPart result (⟦<MemFiles<K> as Files>⟧.told self.old) (⟦<MemFiles<K> as Files>⟧.told self.new) }
+        ensures read { ReadPart result (⟦<MemFiles<K> as Files>⟧.told self.old)
+            (⟦<MemFiles<K> as Files>⟧.told self.new) }
     {
         if self.script.next_fails() {
             self.faults.rise();

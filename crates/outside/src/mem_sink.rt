@@ -1,4 +1,4 @@
-// A sink in memory, whose room is taken at its making.
+//! A sink in memory, whose room is taken at its making.
 ghost use Rattle.std.specs.Prelude.{◌≡◌, [], IfOk, Some};
 ghost use Rattle.outside.specs.SinkCauses.{Puts};
 ghost use Rattle.outside.specs.MemSink.{StoresWhatFits, room_of, told_of};
@@ -8,7 +8,7 @@ use crate::count::Count;
 use crate::sink::{Sink, SinkOut};
 use std::alloc::{AllocError, Global};
 
-/// A sink with room for so many bytes.
+/// A sink with room for this many bytes.
 #[derive(Drop)]
 pub struct MemSink {
     room: Room,

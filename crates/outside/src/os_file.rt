@@ -1,5 +1,6 @@
-// An open file of the system. What is known of it was asked of the open file itself, so that a file which is put
-// in its place meanwhile is another file. Of a small one the content is kept from the moment of its opening.
+//! An open file of the system. What is known of it was asked of the open file itself, so that a
+//! file which is put in its place meanwhile is another file. Of a small one the content is kept
+//! from the moment of its opening.
 ghost use Rattle.std.specs.Prelude.{◌≡◌, ◌<◌, ◌≤◌, IfOk, IfSome, length};
 ghost use Rattle.outside.specs.FileCauses.{PartWithin};
 ghost use Rattle.outside.specs.OsFile.{GivesKept, HasKeptSize, kept_of};
@@ -13,7 +14,7 @@ use std::os::unix::fs::FileExt;
 use std::time::SystemTime;
 use std::{fs, io, rt};
 
-/// A file of at most so many bytes is read whole when it is opened.
+/// A file of at most this many bytes is read whole when it is opened.
 const SMALL: u64 = 16_384;
 
 /// An open file of the system, and the path below the root at which it was found.
@@ -25,8 +26,8 @@ pub struct OsFile<X> {
 }
 
 impl<X: FileExt> OsFile<X> {
-    /// The bytes from place `at` on, without a system call where the content is kept. No byte at a place that the
-    /// file had when it was found is a failure: it has become shorter.
+    /// The bytes from place `at` on, without a system call where the content is kept. No byte at a place that
+    /// the file had when it was found is a failure: it has become shorter.
     pub(crate) fn read_part(&self, at: u64, buf: &mut [u8]) -> PartOut
         requires { 0 < length buf.old }
         ensures within { PartWithin result buf.new }
@@ -46,7 +47,8 @@ impl<X: FileExt> OsFile<X> {
 }
 
 /// Opens the regular file at a path of the system, which is `path` below the root; none where something else
-/// stands there. The kind is looked at before the opening too, since the opening of a pipe waits for its writer.
+/// stands there. The kind is looked at before the opening too, since the opening of a
+/// pipe waits for its writer.
 pub(crate) fn open_regular<R: rt::Files>(
     alloc: Global,
     files: &R,
@@ -78,10 +80,11 @@ where
     }))
 }
 
-/// The content of a small file, read in one step. None of a bigger file, and of one that isn't `size` bytes long
-/// any more, which is read as it is asked for.
+/// The content of a small file, read in one step. None of a bigger file, and of one that isn't `size` bytes
+/// long any more, which is read as it is asked for.
 fn small_content<X: FileExt>(alloc: Global, file: &X, size: u64) -> io::Result<Option<Vec<u8>>>
-    ensures { IfOk result (λ content. IfSome content (λ bytes. (length bytes.items ≡ size) × (size ≤ 16384))) }
+    ensures { IfOk result
+        (λ content. IfSome content (λ bytes. (length bytes.items ≡ size) × (size ≤ 16384))) }
 {
     if size > SMALL {
         return Ok(None);

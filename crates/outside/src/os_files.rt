@@ -1,4 +1,4 @@
-// The system's files below a root. They tell no folder: what a real folder holds is the system's word.
+//! The system's files below a root. They tell no folder: what a real folder holds is the system's word.
 ghost use Rattle.std.specs.Prelude.{◌≡◌, ◌<◌, None, false, IfSome, length, string_bytes};
 ghost use Rattle.outside.specs.FileCauses.{FoundAt, Looked, PartWithin, ReadPart};
 ghost use Rattle.outside.specs.OsFile.{FindsKept, GivesKept, kept_of};
@@ -10,25 +10,28 @@ use crate::rooted::Rooted;
 use std::alloc::{AllocError, Global};
 use std::io::ErrorKind;
 use std::os::unix::fs::FileExt;
+use std::sync::Arc;
 use std::{fs, rt};
 
 /// The system's files below a root. Symbolic links are followed as the system does.
+/// The runtime is held and not lent, so the type names no lifetime.
 #[derive(Drop)]
-pub struct OsFiles<'a, R> {
+pub struct OsFiles<R> {
     alloc: Global,
-    rt: &'a R,
+    rt: Arc<R, Global>,
     rooted: Option<Rooted>,
     finds: Count,
     faults: Count,
 }
 
-impl<'a, R: rt::Files> OsFiles<'a, R>
+impl<R: rt::Files> OsFiles<R>
 where
     R::File: FileExt,
 {
     /// The files of this runtime, with no root yet, so that no path is there.
-    pub fn new(alloc: Global, rt: &'a R) -> OsFiles<'a, R>
-        ensures { ⟦<OsFiles<'a, R> as Files>⟧.told result ≡ record { rooted = None; finds = 0; looked = None; faults = 0; firm = false } }
+    pub fn new(alloc: Global, rt: Arc<R, Global>) -> OsFiles<R>
+        ensures { ⟦<OsFiles<R> as Files>⟧.told result
+            ≡ record { rooted = None; finds = 0; looked = None; faults = 0; firm = false } }
     {
         OsFiles {
             alloc,
@@ -48,7 +51,7 @@ where
     }
 }
 
-impl<'a, R: rt::Files> Files for OsFiles<'a, R>
+impl<R: rt::Files> Files for OsFiles<R>
 where
     R::File: FileExt,
 {
@@ -67,7 +70,7 @@ where
         let Ok(text) = String::from_str(self.alloc, root) else {
             return RootOut::NoMemory;
         };
-        let answer = match fs::metadata(self.rt, root) {
+        let answer = match fs::metadata(&*self.rt, root) {
             Ok(about) if about.is_dir() => RootOut::Present,
             Ok(_) => RootOut::Absent,
             Err(e) => match e.kind() {
@@ -88,7 +91,8 @@ where
     fn find(&mut self, path: &str) -> FindOut<OsFile<R::File>>
         ensures at { FoundAt (λ file. string_bytes file.path) path.now result }
         ensures kept { FindsKept result }
-        ensures looked { Looked result path.now (⟦<OsFiles<'a, R> as Files>⟧.told self.old) (⟦<OsFiles<'a, R> as Files>⟧.told self.new) }
+        ensures looked { Looked result path.now (⟦<OsFiles<R> as Files>⟧.told self.old)
+            (⟦<OsFiles<R> as Files>⟧.told self.new) }
     {
         self.finds.rise();
         let Ok(full) = self.full_path(path) else {
@@ -100,7 +104,7 @@ where
         let Ok(text) = String::from_str(self.alloc, path) else {
             return FindOut::NoMemory;
         };
-        match open_regular(self.alloc, self.rt, full.as_str(), text) {
+        match open_regular(self.alloc, &*self.rt, full.as_str(), text) {
             Ok(Some(opened)) => FindOut::Found(opened),
             Ok(None) => FindOut::Absent,
             Err(e) => match e.kind() {
@@ -122,7 +126,8 @@ where
         ensures within { PartWithin result buf.new }
         ensures kept { IfSome (kept_of file.old) (GivesKept at buf.new result) }
         ensures same { file.new ≡ file.old }
-        ensures read { ReadPart result (⟦<OsFiles<'a, R> as Files>⟧.told self.old) (⟦<OsFiles<'a, R> as Files>⟧.told self.new) }
+        ensures read { ReadPart result (⟦<OsFiles<R> as Files>⟧.told self.old)
+            (⟦<OsFiles<R> as Files>⟧.told self.new) }
     {
         let answer = file.read_part(at, buf);
         if answer == PartOut::Failed {

@@ -1,4 +1,4 @@
-// A link in memory, which gives pieces and takes as much of each write as a test wants it to.
+//! A link in memory, which gives pieces and takes as much of each write as a test wants it to.
 ghost use Rattle.std.specs.Prelude.{◌≡◌, ◌<◌, ◌-◌, IfOk, drop, false, length, refl};
 ghost use Rattle.outside.specs.Causes.{bytes_got, bytes_taken, GivesWithin, Read, TakesWithin, Wrote};
 ghost use Rattle.outside.specs.ReadScript.{EachFilled, PlaysRead};
@@ -13,7 +13,8 @@ use std::alloc::{AllocError, Global};
 /// What one write of a link in memory meets.
 #[derive(Clone, Copy, Debug, PartialEq, Eq)]
 pub enum WriteEvent {
-    /// So many bytes of the piece are taken, or the whole piece where it is shorter. At 0 a fault is counted.
+    /// This many bytes of the piece are taken, or the whole piece where it is shorter.
+    /// At 0 a fault is counted.
     Take(usize),
     /// No byte can be taken now.
     NotYet,
@@ -36,8 +37,8 @@ pub struct PieceLink {
 }
 
 impl PieceLink {
-    /// A link that plays these events. Each piece has at least one byte. Behind the last read event the input
-    /// is over, and behind the last write event every piece is taken whole. What is sent is kept in `room`
+    /// A link that plays these events. Each piece has at least one byte. After the last read event the input
+    /// is over, and after the last write event every piece is taken whole. What is sent is kept in `room`
     /// bytes, which are taken now; a write that doesn't fit there fails.
     pub fn new(
         alloc: Global,
@@ -72,10 +73,12 @@ impl PieceLink {
 
     /// What the next write event says of a piece of this length.
     fn next_write(&mut self, size: usize) -> WriteOut
-        ensures answer { result ≡ write_answer (drop self.old.written self.old.writes.items) size (self.old.room.size - length self.old.room.stored) }
+        ensures answer { result ≡ write_answer (drop self.old.written self.old.writes.items) size
+            (self.old.room.size - length self.old.room.stored) }
         ensures fits { FitsIn result size self.old.room }
         ensures same { self.new ≡ record self.old { written = self.new.written } }
-        ensures events { drop self.new.written self.new.writes.items ≡ drop 1 (drop self.old.written self.old.writes.items) }
+        ensures events { drop self.new.written self.new.writes.items
+            ≡ drop 1 (drop self.old.written self.old.writes.items) }
     {
         let wanted = if self.written < self.writes.len() {
             let event = self.writes[self.written];
@@ -105,8 +108,12 @@ impl Link for PieceLink {
         requires { 0 < length buf.old }
         ensures within { GivesWithin result buf.new }
         ensures read { Read result (bytes_got result buf.new) (told_of self.old) (told_of self.new) }
-        ensures plays { PlaysRead (state_of self.old).reads.left (state_of self.new).reads.left result buf.new }
-        ensures same { state_of self.new ≡ record (state_of self.old) { reads = (state_of self.new).reads; ended = (state_of self.new).ended } }
+        ensures plays { PlaysRead (state_of self.old).reads.left
+            (state_of self.new).reads.left result buf.new }
+        ensures same { state_of self.new ≡ record (state_of self.old) {
+          reads = (state_of self.new).reads;
+          ended = (state_of self.new).ended;
+        } }
     {
         let answer = self.reads.read(buf);
         match answer {

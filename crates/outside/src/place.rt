@@ -1,5 +1,5 @@
-// What a folder in memory has, as a meaning of a type: a type that names the folder stands for it at compile
-// time, and `Brand` stands for one that is chosen where it is used.
+//! What a folder in memory has, as a meaning of a type: a type that names the folder stands for it at compile
+//! time, and `Brand` stands for one that is chosen where it is used.
 ghost use Rattle.outside.specs.Folder.{Folder};
 
 use std::marker::Brand;

@@ -1,4 +1,4 @@
-// What a link in memory will give: pieces of bytes, reads that must wait and reads that fail, in order.
+//! What a link in memory will give: pieces of bytes, reads that must wait and reads that fail, in order.
 ghost use Rattle.std.specs.Prelude.{◌≡◌, ◌<◌, ◌≤◌, ◌++◌, [], length};
 ghost use Rattle.outside.specs.Causes.{GivesWithin, bytes_got};
 ghost use Rattle.outside.specs.ReadScript.{EachFilled, IsPlace, PlaysRead, ReadState, state_at, steps_of};

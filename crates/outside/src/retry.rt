@@ -1,5 +1,5 @@
-// One step of a std reader, writer or file. A signal that came in between is no fault of the other side, so such
-// a step is taken again.
+//! One step of a std reader, writer or file. A signal that came in between is no fault of the other side,
+//! so such a step is taken again.
 ghost use Rattle.std.specs.Prelude.{◌≢◌, IfErr};
 ghost use Rattle.std.specs.Io.{ReadsAtMost, WritesAtMost};
 ghost use Rattle.std.specs.Io.KnownBytes.{ReadConsumes, WriteAppends};

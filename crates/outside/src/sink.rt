@@ -1,4 +1,4 @@
-// Where a program's lines go.
+//! Where a program's lines go.
 ghost use Rattle.std.specs.Prelude.{◌≤◌};
 ghost use Rattle.outside.specs.Counts.{full};
 ghost use Rattle.outside.specs.SinkCauses.{Puts, SinkTold};
@@ -17,7 +17,7 @@ pub trait Sink {
     // The bytes stored so far, where they are told, and how many faults there were.
     ghost told: { Self → SinkTold };
 
-    /// Stores the piece behind what is stored.
+    /// Stores the piece after what is stored.
     fn put(&mut self, piece: &[u8]) -> SinkOut
         ensures { Puts result piece.now (told self.old) (told self.new) };
 

@@ -1,4 +1,4 @@
-// A link over a reader and a writer of std. It tells no bytes.
+//! A link over a reader and a writer of std. It tells no bytes.
 ghost use Rattle.std.specs.Prelude.{◌≡◌, ◌≢◌, ◌<◌, None, false, length, refl};
 ghost use Rattle.std.specs.Io.KnownBytes.{Appends, Consumes, IsAtEnd};
 ghost use Rattle.outside.specs.Causes.{bytes_got, bytes_taken, GivesWithin, Read, TakesWithin, Wrote};
@@ -22,7 +22,14 @@ pub struct StdLink<R, W> {
 impl<R, W> StdLink<R, W> {
     /// A link that reads from the reader and writes to the writer.
     pub fn new(reader: R, writer: W) -> StdLink<R, W>
-        ensures { told_of result ≡ record { taken = None; sent = None; ended = None; plan = None; faults = nothing_counted; waits = nothing_counted } }
+        ensures { told_of result ≡ record {
+          taken = None;
+          sent = None;
+          ended = None;
+          plan = None;
+          faults = nothing_counted;
+          waits = nothing_counted;
+        } }
     {
         StdLink {
             reader,
@@ -42,7 +49,8 @@ impl<R: Read, W: Write> Link for StdLink<R, W> {
     fn read(&mut self, buf: &mut [u8]) -> ReadOut
         requires { 0 < length buf.old }
         ensures within { GivesWithin result buf.new }
-        ensures reads { Consumes (R.remaining self.old.reader) (R.remaining self.new.reader) (bytes_got result buf.new) }
+        ensures reads { Consumes (R.remaining self.old.reader) (R.remaining self.new.reader)
+            (bytes_got result buf.new) }
         ensures over { result ≡ ReadOut.End → IsAtEnd (R.remaining self.new.reader) }
         ensures never { result ≢ ReadOut.NotYet }
         ensures read { Read result (bytes_got result buf.new) (told_of self.old) (told_of self.new) }
@@ -60,7 +68,8 @@ impl<R: Read, W: Write> Link for StdLink<R, W> {
     // Where the writer tells its bytes, those that were taken came to them.
     fn write(&mut self, piece: &[u8]) -> WriteOut
         ensures within { TakesWithin result piece.now }
-        ensures writes { Appends (W.contents self.old.writer) (W.contents self.new.writer) (bytes_taken result piece.now) }
+        ensures writes { Appends (W.contents self.old.writer) (W.contents self.new.writer)
+            (bytes_taken result piece.now) }
         ensures never { result ≢ WriteOut.NotYet }
         ensures wrote { Wrote result (bytes_taken result piece.now) (told_of self.old) (told_of self.new) }
     {

@@ -1,4 +1,4 @@
-// A sink over a writer of std. It tells no bytes.
+//! A sink over a writer of std. It tells no bytes.
 ghost use Rattle.std.specs.Prelude.{◌≡◌, None};
 ghost use Rattle.std.specs.Io.KnownBytes.{Appends};
 ghost use Rattle.outside.specs.SinkCauses.{Puts};
@@ -31,8 +31,10 @@ impl<W: Write> Sink for StdSink<W> {
 
     // Where the writer tells its bytes, a piece that is stored came to them whole.
     fn put(&mut self, piece: &[u8]) -> SinkOut
-        ensures writes { result ≡ SinkOut.Stored → Appends (W.contents self.old.writer) (W.contents self.new.writer) piece.now }
-        ensures puts { Puts result piece.now (record { stored = None; faults = self.old.faults.n }) (record { stored = None; faults = self.new.faults.n }) }
+        ensures writes { result ≡ SinkOut.Stored
+            → Appends (W.contents self.old.writer) (W.contents self.new.writer) piece.now }
+        ensures puts { Puts result piece.now (record { stored = None; faults = self.old.faults.n })
+            (record { stored = None; faults = self.new.faults.n }) }
     {
         if self.writer.write_all(piece).is_ok() && self.writer.flush().is_ok() {
             SinkOut::Stored

@@ -4,7 +4,8 @@ use Rattle.std.specs.List.{list_any, after_last}
 use Rattle.std.specs.Str.{bytes_eq}
 use Rattle.std.specs.Char.{to_ascii_lowercase}
 use Rattle.warp_response.specs.declared.response.Kind.{Kind}
-use Rattle.warp_response.specs.declared.response.Kind.TheVariants.{Html, Plain, Css, JavaScript, Json, Xml, Svg, Png, Jpeg, Gif, OctetStream}
+use Rattle.warp_response.specs.declared.response.Kind.TheVariants.{Html, Plain, Css, JavaScript, Json, Xml}
+use Rattle.warp_response.specs.declared.response.Kind.TheVariants.{Svg, Png, Jpeg, Gif, OctetStream}
 use Rattle.path_rules.specs.Target.{is_slash}
 
 -- the test for `.`

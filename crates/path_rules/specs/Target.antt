@@ -1,5 +1,6 @@
 -- To be believed: the form of a target, and where its raw path and its query stand (RFC 9112, section 3.2).
-use Rattle.std.specs.Prelude.{ℕ, ◌+◌, ◌==◌, Bool, true, false, ◌&&◌, ◌||◌, nat_lt, List, [], ◌∷◌, length, drop, take, map, Option, Some, None, if◌then◌else◌}
+use Rattle.std.specs.Prelude.{ℕ, ◌+◌, ◌==◌, Bool, true, false, ◌&&◌, ◌||◌, nat_lt, List, [], ◌∷◌, length}
+use Rattle.std.specs.Prelude.{drop, take, map, Option, Some, None, if◌then◌else◌}
 use Rattle.std.specs.List.{position_or_len}
 use Rattle.std.specs.Str.{bytes_eq}
 use Rattle.std.specs.Char.{to_ascii_lowercase}
@@ -34,7 +35,8 @@ begins_with_slash (b ∷ bs) = is_slash b
 
 -- the target begins with a scheme, in any case of ASCII letters
 abbrev pub has_scheme : List ℕ → List ℕ → Bool
-has_scheme target scheme = bytes_eq (map to_ascii_lowercase (take (length scheme) target)) (map to_ascii_lowercase scheme)
+has_scheme target scheme =
+    bytes_eq (map to_ascii_lowercase (take (length scheme) target)) (map to_ascii_lowercase scheme)
 
 -- the place after a scheme that an authority of at least one byte follows (RFC 9112, section 3.2.2)
 unfoldable pub behind_scheme : List ℕ → List ℕ → Option ℕ
@@ -65,7 +67,8 @@ has_path Neither = false
 -- the span of the raw path in a target of a form
 abbrev pub raw_path_in : List ℕ → Form → ℕ × ℕ
 raw_path_in target Origin = (0, path_end target 0)
-raw_path_in target (Absolute authority) = (authority_end target authority, path_end target (authority_end target authority))
+raw_path_in target (Absolute authority) =
+    (authority_end target authority, path_end target (authority_end target authority))
 raw_path_in target Neither = (0, 0)
 
 -- the span of the raw path
@@ -74,4 +77,5 @@ raw_path_of target = raw_path_in target (form_of target)
 
 -- the span of the query: what follows the first `?`, where there is one
 unfoldable pub query_of : List ℕ → Option (ℕ × ℕ)
-query_of target = if nat_lt (path_end target 0) (length target) then Some (path_end target 0 + 1, length target) else None
+query_of target =
+    if nat_lt (path_end target 0) (length target) then Some (path_end target 0 + 1, length target) else None

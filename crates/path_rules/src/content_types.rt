@@ -1,4 +1,4 @@
-// The media type of a file, by the ending of its name.
+//! The media type of a file, by the ending of its name.
 ghost use Rattle.std.specs.Prelude.{◌≡◌, ◌≤◌, ◌<◌, ◌+◌, ◌↔◌, IsTrue, length, map, Option, option_map, None, Some};
 ghost use Rattle.std.specs.Char.{to_ascii_lowercase};
 ghost use Rattle.std.specs.Str.{bytes_eq};
@@ -7,7 +7,8 @@ ghost use Rattle.path_rules.specs.ContentType.{content_type_of, last_segment, en
 use memchr::memrchr;
 use warp_response::Kind;
 
-/// The kind of the file at a path, by what follows the last `.` of its last segment, in any case of ASCII letters.
+/// The kind of the file at a path, by what follows the last `.` of its last segment, in
+/// any case of ASCII letters.
 #[tactic(auto, unfolding(crate::specs::ContentType::content_type_of))]
 pub fn content_type(path: &str) -> Kind
     ensures { result ≡ content_type_of path.now }

@@ -1,4 +1,4 @@
-// The buffer in which paths are written: made once for a connection, with room for every path.
+//! The buffer in which paths are written: made once for a connection, with room for every path.
 ghost use Rattle.std.specs.Prelude.{◌≡◌, ◌≤◌, ◌+◌, ◌++◌, ◌↔◌, [], IfOk, IsTrue, length, if◌then◌else◌};
 
 use std::alloc::{AllocError, Global};

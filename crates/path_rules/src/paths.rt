@@ -1,4 +1,4 @@
-// The path of a file that a target stands for.
+//! The path of a file that a target stands for.
 ghost use Rattle.std.specs.Prelude.{◌≡◌, ◌≤◌, [], ◌∷◌, length, Option, option_map, drop};
 ghost use Rattle.std.specs.List.{slice_split};
 ghost use Rattle.path_rules.specs.Target.{is_slash, form_of};
@@ -16,8 +16,8 @@ const LONGEST_PATH: usize = 3_900;
 /// The name of the file that stands for a folder.
 const INDEX: &str = "index.html";
 
-/// What a target stands for. The path of its file is left in `out`, and nothing where nothing is served. It takes no
-/// memory.
+/// What a target stands for. The path of its file is left in `out`, and nothing where nothing
+/// is served. It takes no memory.
 #[tactic(auto, unfolding(crate::specs::Route::route_of))]
 pub fn route(target: &[u8], out: &mut PathBuf8) -> Route
     ensures is { route_shown result out.new ≡ route_of target.now }
@@ -33,7 +33,8 @@ pub fn route(target: &[u8], out: &mut PathBuf8) -> Route
 
 /// What follows the first `/` of the raw path.
 fn behind_root(target: &[u8]) -> Option<&[u8]>
-    ensures { option_map (λ path. path.now) result ≡ option_map (drop 1) (raw_text target.now (form_of target.now)) }
+    ensures { option_map (λ path. path.now) result
+        ≡ option_map (drop 1) (raw_text target.now (form_of target.now)) }
 {
     if form_of(target) == Form::Neither {
         return None;

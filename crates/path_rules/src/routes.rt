@@ -1,4 +1,4 @@
-// What a target may stand for.
+//! What a target may stand for.
 
 /// What a target stands for.
 #[derive(Clone, Copy, Debug, PartialEq, Eq)]

@@ -1,4 +1,4 @@
-// The segments of a raw path: each is decoded once, and then it has to be a name.
+//! The segments of a raw path: each is decoded once, and then it has to be a name.
 ghost use Rattle.std.specs.Prelude.{◌≡◌, ◌≤◌, ◌<◌, ◌+◌, ◌++◌, true, false, [], ◌∷◌, ◌&&◌, IfSome, IfNone, IsTrue, MatchOption, length, take, nat_le, codes, if◌then◌else◌};
 ghost use Rattle.std.specs.List.{list_any, slice_split};
 ghost use Rattle.percent_encoding.specs.Percent.{percent_decode as decoded};
@@ -16,7 +16,8 @@ const LONGEST_NAME: usize = 255;
 
 /// The first segment of a path and what follows its `/`, where it isn't the last one.
 pub(crate) fn first_folder(path: &[u8]) -> Option<(&[u8], &[u8])>
-    ensures { MatchOption result (slice_split is_slash path.now ≡ path.now ∷ []) (λ parts. IsFirstOf path.now parts.0.now parts.1.now) }
+    ensures { MatchOption result (slice_split is_slash path.now ≡ path.now ∷ [])
+        (λ parts. IsFirstOf path.now parts.0.now parts.1.now) }
 {
     match memchr(b'/', path) {
         Some(at) => Some((&path[..at], &path[at + 1..])),
@@ -24,9 +25,11 @@ pub(crate) fn first_folder(path: &[u8]) -> Option<(&[u8], &[u8])>
     }
 }
 
-/// Decodes a segment into the front of `bytes`, and gives the number of its bytes. There is none where it is too long.
+/// Decodes a segment into the front of `bytes`, and gives the number of its bytes. There
+/// is none where it is too long.
 fn decode(segment: &[u8], bytes: &mut [u8]) -> Option<usize>
-    ensures some { IfSome result (λ len. (len ≤ length bytes.old) × (take len bytes.new ≡ decoded segment.now)) }
+    ensures some { IfSome result
+        (λ len. (len ≤ length bytes.old) × (take len bytes.new ≡ decoded segment.now)) }
     ensures none { IfNone result (length bytes.old < length (decoded segment.now)) }
 {
     let mut len = 0;
@@ -43,7 +46,8 @@ fn decode(segment: &[u8], bytes: &mut [u8]) -> Option<usize>
 /// The decoded segment as a name, where it is one.
 #[tactic(auto, unfolding(crate::specs::Route::is_name))]
 fn name_of(bytes: &[u8]) -> Option<&str>
-    ensures { MatchOption result (is_name bytes.now ≡ false) (λ name. (name.now ≡ bytes.now) × (is_name bytes.now ≡ true)) }
+    ensures { MatchOption result (is_name bytes.now ≡ false)
+        (λ name. (name.now ≡ bytes.now) × (is_name bytes.now ≡ true)) }
 {
     if bytes.len() > LONGEST_NAME || is_hidden(bytes) || holds_forbidden(bytes) {
         return None;
@@ -68,11 +72,13 @@ fn holds_forbidden(name: &[u8]) -> bool
     name.iter().any(|b| *b == 0 || *b == b'/' || *b == b'\\')
 }
 
-/// Writes a segment, decoded, after the path. `false` says that it is no name or doesn't fit, and then the path is as
-/// it was.
+/// Writes a segment, decoded, after the path. `false` says that it is no name or doesn't fit,
+/// and then the path is as it was.
 #[tactic(auto, using(crate::proofs::PlainLemmas::plain))]
 pub(crate) fn add_segment(segment: &[u8], out: &mut PathBuf8) -> bool
-    ensures is { result ≡ (is_name (decoded segment.now) && nat_le (length out.old + length (decoded segment.now)) PATH_BYTES) }
+    ensures is { result
+        ≡ (is_name (decoded segment.now)
+        && nat_le (length out.old + length (decoded segment.now)) PATH_BYTES) }
     ensures added { out.new ≡ (if result then out.old ++ decoded segment.now else out.old) }
 {
     // Without `%` there is nothing to decode, so it is a name as it stands or none.
@@ -97,8 +103,8 @@ fn add_name(bytes: &[u8], out: &mut PathBuf8) -> bool
     }
 }
 
-/// Writes the segment of a folder, decoded, after the path, and a `/` after it. `false` says that it is empty, is no
-/// name or doesn't fit.
+/// Writes the segment of a folder, decoded, after the path, and a `/` after it. `false` says that it is
+/// empty, is no name or doesn't fit.
 #[tactic(auto, unfolding(crate::specs::Walk::can_follow))]
 pub(crate) fn add_folder(segment: &[u8], out: &mut PathBuf8) -> bool
     ensures is { result ≡ can_follow (length out.old) segment.now }

@@ -1,4 +1,4 @@
-// The parts of a target: where its raw path and its query stand (RFC 9112, section 3.2).
+//! The parts of a target: where its raw path and its query stand (RFC 9112, section 3.2).
 ghost use Rattle.std.specs.Prelude.{◌≡◌, ◌≤◌, ◌+◌, ℕ, IsTrue, length, IfSome};
 ghost use Rattle.warp_response.specs.Reply.{IsSpanOf};
 ghost use Rattle.path_rules.specs.Target.{form_of, begins_with_slash, has_scheme, behind_scheme, authority_end, path_end, raw_path_of, query_of, ends_authority, is_question_mark};
@@ -106,8 +106,8 @@ fn path_end(target: &[u8], start: usize) -> usize
     start + question_mark(&target[start..])
 }
 
-/// The span of the raw path: the places of its first byte and after its last byte. It is empty after an authority with
-/// no path, and (0, 0) where the target is of neither form.
+/// The span of the raw path: the places of its first byte and after its last byte. It is empty after an
+/// authority with no path, and (0, 0) where the target is of neither form.
 #[tactic(auto, unfolding(crate::specs::Target::raw_path_of))]
 pub fn raw_path(target: &[u8]) -> (usize, usize)
     ensures is { result ≡ raw_path_of target.now }

@@ -1,4 +1,4 @@
-// Worked targets and paths, each with what the rules give for it.
+//! Worked targets and paths, each with what the rules give for it.
 use crate::{PathBuf8, Route, content_type, query, raw_path, route};
 use std::alloc::{AllocError, Global};
 use std::process::Abort;

@@ -19,7 +19,8 @@ link_given Events.Fail = None
 abbrev pub GivesUntouched : AcceptEvent → Type 0
 GivesUntouched event = ForSome (link_given event) (λ link. IsUntouched (link_told link))
 
--- an accept answers what the next event says, and leaves the events behind it; behind the last one no connection is there
+-- an accept answers what the next event says, and leaves the events after it; after the
+-- last one no connection is there
 abbrev pub PlaysAccept : (old new : List AcceptEvent) → AcceptOut PieceLink → Type 0
 PlaysAccept [] new result = (result ≡ Accepts.NotYet) × (new ≡ [])
 PlaysAccept (Events.Give link ∷ more) new result = (result ≡ Accepts.Accepted link) × (new ≡ more)

@@ -1,5 +1,6 @@
 -- To be believed: a scripted poller: the openings that it keeps, and what each of its polls gives.
-use Rattle.std.specs.Prelude.{◌≡◌, ℕ, ◌<◌, ◌==◌, Bool, List, [], ◌∷◌, ◌++◌, Option, Some, None, if◌then◌else◌, drop, length, take}
+use Rattle.std.specs.Prelude.{◌≡◌, ℕ, ◌<◌, ◌==◌, Bool, List, [], ◌∷◌, ◌++◌, Option, Some, None, if◌then◌else◌}
+use Rattle.std.specs.Prelude.{drop, length, take}
 use Rattle.std.specs.List.{remove}
 use Rattle.outside.specs.CallScript.{CallState, NextFails, called}
 use Rattle.outside.specs.Counts.{more_by_one}
@@ -33,9 +34,11 @@ without fd (o ∷ os) = if o.fd == fd then os else o ∷ without fd os
 -- where the first opening of a descriptor stands
 abbrev pub IsPlaceFor : List Opening → ℕ → Option ℕ → Type 0
 IsPlaceFor openings fd None = without fd openings ≡ openings
-IsPlaceFor openings fd (Some place) = (place < length openings) × (without fd openings ≡ remove openings place)
+IsPlaceFor openings fd (Some place) =
+    (place < length openings) × (without fd openings ≡ remove openings place)
 
--- an opening that is added comes behind the others, and one of the same descriptor is kept no more; at want of memory nothing changes
+-- an opening that is added comes after the others, and one of the same descriptor is kept no more; at
+-- want of memory nothing changes
 abbrev pub Keeping : Opening → (old new : List Opening) → AddOut → Type 0
 Keeping opening old new Adds.Added = new ≡ without opening.fd old ++ opening ∷ []
 Keeping opening old new Adds.NoMemory = new ≡ old
@@ -45,21 +48,24 @@ Keeping opening old new Adds.Failed = ⊥
 abbrev pub reports_in_turn : List Opening → List Report
 reports_in_turn openings = reports_of (take 1024 openings)
 
--- those come behind the others then
+-- those come after the others then
 abbrev pub openings_after : List Opening → List Opening
 openings_after openings = drop 1024 openings ++ take 1024 openings
 
--- a poll fails exactly where its number says so, and is told by the count of faults then; every other poll reports openings that were added, each in its turn
+-- a poll fails exactly where its number says so, and is told by the count of faults then; every other poll
+-- reports openings that were added, each in its turn
 abbrev pub PlaysPoll : PiecePoller → PollOut → List Report → PiecePoller → Type 0
 PlaysPoll old Polls.Failed out new =
     NextFails (calls_of old) × (out ≡ []) × (openings_of new ≡ openings_of old)
     × (faults_of new ≡ record (faults_of old) { polls = more_by_one old.poll_faults.n })
 PlaysPoll old Polls.Polled out new =
-    (NextFails (calls_of old) → ⊥) × (out ≡ reports_in_turn (openings_of old)) × (openings_of new ≡ openings_after (openings_of old))
+    (NextFails (calls_of old) → ⊥) × (out ≡ reports_in_turn (openings_of old))
+    × (openings_of new ≡ openings_after (openings_of old))
     × (faults_of new ≡ faults_of old)
 
 -- a poll plays, whether it may wait or not, and is counted
-pub record IsPoll (old : PiecePoller) (idle : Bool) (result : PollOut) (out : List Report) (new : PiecePoller) : Type 0 where
+pub record IsPoll (old : PiecePoller) (idle : Bool) (result : PollOut) (out : List Report)
+    (new : PiecePoller) : Type 0 where
   pub plays : PlaysPoll old result out new
   pub counted : calls_of new ≡ called (calls_of old)
   pub leaves : PollsLeave (faults_of old) (faults_of new)

@@ -20,7 +20,7 @@ pub enum AcceptEvent {
     Fail,
 }
 
-/// A listener that plays events in order. Behind the last one no connection is there, for ever.
+/// A listener that plays events in order. After the last one no connection is there, for ever.
 #[derive(Drop)]
 pub struct PieceListener {
     events: VecDeque<AcceptEvent>,
@@ -68,7 +68,8 @@ impl Listener for PieceListener {
     #[tactic(auto, using(crate::proofs::EventLemmas::first_given))]
     fn accept(&mut self) -> AcceptOut<PieceLink>
         ensures untouched { IfAccepted result (λ link. IsUntouched (link_told link)) }
-        ensures planned { IfAccepted result (λ link. IsPlannedAt (told_of self.old).plans (told_of self.old).accepted (link_told link).plan) }
+        ensures planned { IfAccepted result
+            (λ link. IsPlannedAt (told_of self.old).plans (told_of self.old).accepted (link_told link).plan) }
         ensures accepted { HasAccepted result (told_of self.old) (told_of self.new) }
         ensures plays { PlaysAccept (events_of self.old) (events_of self.new) result }
     {

@@ -12,8 +12,8 @@ use std::alloc::Global;
 use std::collections::VecDeque;
 use std::sync::Wait;
 
-/// A poller that plays a script. It keeps each opening that was added until another one of its descriptor is, and
-/// takes all of them for ready at any time: to whoever finds nothing there the link says so.
+/// A poller that plays a script. It keeps each opening that was added until another one of its descriptor is,
+/// and takes all of them for ready at any time: to whoever finds nothing there the link says so.
 #[derive(Drop)]
 pub struct PiecePoller {
     openings: VecDeque<Opening>,
@@ -88,7 +88,7 @@ impl PiecePoller {
         AddOut::Added
     }
 
-    /// Reports the first openings, as many as one poll may, and puts them behind the others.
+    /// Reports the first openings, as many as one poll may, and puts them after the others.
     #[tactic(auto, using(crate::proofs::TurnLemmas::turn_goes_on, crate::proofs::TurnLemmas::turn_given, crate::proofs::TurnLemmas::turn_after))]
     fn go_round(&mut self, out: &mut Reports)
         requires { out.old ≡ [] }

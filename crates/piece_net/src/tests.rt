@@ -1,4 +1,4 @@
-// What a scripted listener gives, and what a scripted poller reports.
+//! What a scripted listener gives, and what a scripted poller reports.
 ghost use Rattle.std.specs.Prelude.{◌≡◌, IfOk};
 ghost use Rattle.outside.specs.ListenCauses.{IsUntouched};
 ghost use Rattle.outside.specs.PieceLink.{told_of as link_told};

@@ -1,5 +1,6 @@
 -- To be believed: the rule of a memory net's table, and what each kind of atomic step tells.
-use Rattle.std.specs.Prelude.{◌≡◌, ◌≢◌, ℕ, ◌+◌, ◌-◌, ◌/◌, ◌≤◌, ◌<◌, true, false, List, ◌∷◌, length, map, slice_index}
+use Rattle.std.specs.Prelude.{◌≡◌, ◌≢◌, ℕ, ◌+◌, ◌-◌, ◌/◌, ◌≤◌, ◌<◌, true, false, List, ◌∷◌, length, map}
+use Rattle.std.specs.Prelude.{slice_index}
 use mathlib.Core.Option.{some}
 use lib.ListN.{get_elem?}
 use Rattle.atomic_table.specs.Table.{State, Me, Step}
@@ -9,7 +10,7 @@ use Rattle.poller.specs.declared.seat_knowledge.Role.{Role}
 use Rattle.poller.specs.declared.seat_knowledge.Role.TheVariants.{Raises, Delivers, Reads}
 use Rattle.poller.specs.declared.seat_knowledge.SeatKnowledge.{SeatKnowledge}
 
--- how often the listener's word is raised, where so many links are to come: the first accepts need no raise
+-- how often the listener's word is raised, where this many links are to come: the first accepts need no raise
 abbrev pub listener_limit : ℕ → ℕ
 listener_limit n = (n - 1) / ACCEPTS
 
@@ -35,7 +36,8 @@ word_of (Raises from until) = from
 word_of (Delivers word) = word
 word_of (Reads word) = word
 
--- what a seat has seen is so: it is what each word has that the seat raises, and no more than the word has that it reads
+-- what a seat has seen is so: it is what each word has that the seat raises, and no more
+-- than the word has that it reads
 abbrev pub HasSeen : List ℕ → Role → ℕ → Type 0
 HasSeen words (Raises from until) seen = (k : ℕ) → from ≤ k → k < until → seen ≡ slice_index words k
 HasSeen words (Delivers word) seen = seen ≡ slice_index words word
@@ -55,7 +57,9 @@ pub record Knows (limits words : List ℕ) (v : SeatKnowledge) : Type 0 where
 
 -- no two seats have a word of this kind in common
 abbrev pub AreApart : (Role → ℕ → Type 0) → List SeatKnowledge → Type 0
-AreApart May views = (i j : ℕ) (v w : SeatKnowledge) → i ≢ j → get_elem? views i ≡ some v → get_elem? views j ≡ some w → (k : ℕ) → May v.role k → May w.role k → ⊥
+AreApart May views =
+    (i j : ℕ) (v w : SeatKnowledge) → i ≢ j → get_elem? views i ≡ some v → get_elem? views j ≡ some w
+    → (k : ℕ) → May v.role k → May w.role k → ⊥
 
 -- a seat that reads the word has left
 pub record ReaderHasLeft (views : List SeatKnowledge) (word : ℕ) : Type 0 where
@@ -65,8 +69,9 @@ pub record ReaderHasLeft (views : List SeatKnowledge) (word : ℕ) : Type 0 wher
   pub reads : seat.role ≡ Reads word
   pub gone : seat.gone ≡ true
 
--- The rule. No word is above its limit, what each seat knows is so, no word is raised by two seats and none is read by
--- two. Behind the counted words stands a note for each: it isn't nought only where the seat that reads the word has left
+-- The rule. No word is above its limit, what each seat knows is so, no word is raised by two seats and
+-- none is read by two. After the counted words stands a note for each: it isn't zero only where the
+-- seat that reads the word has left
 pub record IsNet (limits : List ℕ) (s : State ℕ SeatKnowledge) : Type 0 where
   pub enough : length limits ≤ length s.words
   pub within : (k : ℕ) → k < length limits → slice_index s.words k ≤ slice_index limits k
@@ -75,9 +80,10 @@ pub record IsNet (limits : List ℕ) (s : State ℕ SeatKnowledge) : Type 0 wher
   pub read_apart : AreApart MayRead s.views
   pub notes : (k : ℕ) → 0 < slice_index s.words (length limits + k) → ReaderHasLeft s.views k
 
--- the first seat raises all words, which are nought
+-- the first seat raises all words, which are zero
 abbrev pub first_knowledge : List ℕ → SeatKnowledge
-first_knowledge limits = record { limits = limits; role = Raises 0 (length limits); seen = 0; looks = 0; left = 0; gone = false }
+first_knowledge limits =
+    record { limits = limits; role = Raises 0 (length limits); seen = 0; looks = 0; left = 0; gone = false }
 
 -- a role raises at least one word that nobody reads yet, and all of them are among so many
 abbrev pub HasWords : ℕ → Role → Type 0
@@ -115,7 +121,9 @@ delivered st m n m' = (n ≡ m.0.seen) × (m' ≡ (record m.0 { seen = m.0.seen 
 
 -- a load by a seat that reads the word: it found no less than before, and no more than the limit
 abbrev pub received : Step ℕ → Me ℕ SeatKnowledge → ℕ → Me ℕ SeatKnowledge → Type 0
-received st m n m' = (m.0.seen ≤ n) × (n ≤ slice_index m.0.limits st.word) × (m' ≡ (record m.0 { seen = n; looks = m.0.looks + 1 }, m.1))
+received st m n m' =
+    (m.0.seen ≤ n) × (n ≤ slice_index m.0.limits st.word)
+    × (m' ≡ (record m.0 { seen = n; looks = m.0.looks + 1 }, m.1))
 
 -- the note that belongs to the role's word
 abbrev pub IsNoteOf : Step ℕ → SeatKnowledge → Type 0
@@ -129,7 +137,9 @@ looked st m n m' = IsNoteOf st m.0 × (m' ≡ (record m.0 { left = n; looks = m.
 abbrev pub noted : Step ℕ → Me ℕ SeatKnowledge → ℕ → Me ℕ SeatKnowledge → Type 0
 noted st m n m' = IsNoteOf st m.0 × (m' ≡ (record m.0 { gone = true }, m.1))
 
--- While a seat that reads a word stands, the note of the word is nought
+-- While a seat that reads a word stands, the note of the word is zero
 abbrev pub IsUnnoted : Type 0
-IsUnnoted = (limits : List ℕ) (s : State ℕ SeatKnowledge) (j : ℕ) (v : SeatKnowledge) (word : ℕ) → IsNet limits s → get_elem? s.views j ≡ some v → v.role ≡ Reads word → v.gone ≡ false
+IsUnnoted =
+    (limits : List ℕ) (s : State ℕ SeatKnowledge) (j : ℕ) (v : SeatKnowledge) (word : ℕ) → IsNet limits s
+    → get_elem? s.views j ≡ some v → v.role ≡ Reads word → v.gone ≡ false
     → slice_index s.words (length limits + word) ≡ 0

@@ -10,9 +10,12 @@ pub record PollerMeaning (P : Type 0) : Type 1 where
   pub faults : P → PollerFaults
   -- the reports that its polls gave, in order, where they are told
   pub polled : P → Option (List Report)
-  -- a poll: the poller before it, whether it might wait, its answer, what it put into the reports, and the poller after it
+  -- a poll: the poller before it, whether it might wait, its answer, what it put into the
+  -- reports, and the poller after it
   pub polls : P → Bool → PollOut → List Report → P → Type 0
 
 -- a poll leaves the faults of adding links, and those of polls never fall
 abbrev pub PollsAlone : {P : Type 0} → PollerMeaning P → Type 0
-PollsAlone {P} m = (old : P) (idle : Bool) (result : PollOut) (out : List Report) (new : P) → m.polls old idle result out new → PollsLeave (m.faults old) (m.faults new)
+PollsAlone {P} m =
+    (old : P) (idle : Bool) (result : PollOut) (out : List Report) (new : P) → m.polls old idle result out new
+    → PollsLeave (m.faults old) (m.faults new)

@@ -1,5 +1,7 @@
--- To be believed: a link of a memory net: what its script has, what was delivered of it, and what it gave and took.
-use Rattle.std.specs.Prelude.{◌≡◌, ℕ, ◌+◌, ◌-◌, ◌≤◌, ◌==◌, Bool, false, List, [], ◌∷◌, Option, Some, if◌then◌else◌, length, drop, take, min, slice_index}
+-- To be believed: a link of a memory net: what its script has, what was delivered of it,
+-- and what it gave and took.
+use Rattle.std.specs.Prelude.{◌≡◌, ℕ, ◌+◌, ◌-◌, ◌≤◌, ◌==◌, Bool, false, List, [], ◌∷◌, Option, Some}
+use Rattle.std.specs.Prelude.{if◌then◌else◌, length, drop, take, min, slice_index}
 use Rattle.atomic_table.specs.Seated.{TableId}
 use Rattle.outside.specs.Causes.{LinkTold, bytes_got}
 use Rattle.outside.specs.Counts.{Counts, nothing_counted}
@@ -15,9 +17,9 @@ use Rattle.poller.specs.Deliveries.{limits_of}
 use Rattle.poller.specs.LinkSeats.{DeliveryState, LinkSeatState}
 use Rattle.poller.specs.Scripts.{allowed_in, pieces_in, room_at, steps_at}
 
--- the number and the steps of its script, how many of them it last found delivered and how often it looked, how
--- many bytes it gave, whether it answered that the input is over, what was sent with the room for it, and the way
--- of its word into a poller, until it was added to one
+-- the number and the steps of its script, how many of them it last found delivered and how often it looked,
+-- how many bytes it gave, whether it answered that the input is over, what was sent with the room for it, and
+-- the way of its word into a poller, until it was added to one
 pub record NetLink : Type 0 where
   pub number : ℕ
   pub steps : List ScriptStep
@@ -74,8 +76,8 @@ told_of link =
       waits = waits_of link;
     }
 
--- the link of the script with a number, of which nothing was asked yet: its word is one more than its number, and
--- it carries the seat that delivers its word, which raises it once for each step
+-- the link of the script with a number, of which nothing was asked yet: its word is one more than its number,
+-- and it carries the seat that delivers its word, which raises it once for each step
 abbrev pub fresh_net_link : TableId → List Script → ℕ → NetLink
 fresh_net_link table scripts n = record {
   number = n;
@@ -85,7 +87,14 @@ fresh_net_link table scripts n = record {
   given = 0;
   ended = false;
   room = record { stored = []; size = room_at scripts n };
-  delivery = Some (record { table = table; word = n + 1; delivered = 0; limit = slice_index (limits_of scripts) (n + 1); left = 0; looks = 0 });
+  delivery = Some (record {
+    table = table;
+    word = n + 1;
+    delivered = 0;
+    limit = slice_index (limits_of scripts) (n + 1);
+    left = 0;
+    looks = 0;
+  });
 }
 
 -- the bytes that were delivered and not given
@@ -96,18 +105,21 @@ there_of l = drop l.given (pieces_in (take l.delivered l.steps))
 abbrev pub is_whole : NetLink → Bool
 is_whole l = l.delivered == length l.steps
 
--- what a read answers, where these bytes are there: as many as fit; where there are none, that the input is over once all steps were delivered, and else that the caller must wait
+-- what a read answers, where these bytes are there: as many as fit; where there are none, that the input is
+-- over once all steps were delivered, and else that the caller must wait
 abbrev pub net_read_answer : Bool → List ℕ → ℕ → ReadOut
 net_read_answer whole [] size = if whole then Reads.End else Reads.NotYet
 net_read_answer whole (byte ∷ bytes) size = Reads.Got (min (length (byte ∷ bytes)) size)
 
--- how many bytes a link can take: once all steps were delivered what its room leaves, and before that no more than what the allowances leave
+-- how many bytes a link can take: once all steps were delivered what its room leaves, and before that no more
+-- than what the allowances leave
 abbrev pub can_take : NetLink → ℕ
 can_take l =
     let free = l.room.size - length l.room.stored in
     if is_whole l then free else min free (allowed_in (take l.delivered l.steps) - length l.room.stored)
 
--- what a write answers to a piece of a length: as much as the link can take, or that the caller must wait where that is nothing
+-- what a write answers to a piece of a length: as much as the link can take, or that the caller
+-- must wait where that is nothing
 abbrev pub net_write_answer : ℕ → ℕ → WriteOut
 net_write_answer size can = if min size can == 0 then Writes.NotYet else Writes.Took (min size can)
 
@@ -116,8 +128,10 @@ pub record ReadsNet (old new : NetLink) (result : ReadOut) (buf : List ℕ) : Ty
   pub later : old.delivered ≤ new.delivered
   pub most : new.delivered ≤ length old.steps
   pub looked : new.looks ≡ old.looks + 1
-  pub others : new ≡ record old { delivered = new.delivered; looks = new.looks; given = new.given; ended = new.ended }
-  pub answer : result ≡ net_read_answer (is_whole new) (there_of (record old { delivered = new.delivered })) (length buf)
+  pub others : new
+      ≡ record old { delivered = new.delivered; looks = new.looks; given = new.given; ended = new.ended }
+  pub answer : result ≡ net_read_answer (is_whole new) (there_of (record old { delivered = new.delivered }))
+      (length buf)
   pub bytes : bytes_got result buf ≡ bytes_got result (there_of (record old { delivered = new.delivered }))
   pub gives : new.given ≡ old.given + length (bytes_got result buf)
 

@@ -14,7 +14,7 @@ Report = Opening × Dirs
 abbrev pub HasToken : Opening → Type 0
 HasToken o = (o.number < 2 ^ 57) × (o.fd < DESCRIPTORS)
 
--- the reports that are told after a poll: those of a poll that didn't fail come behind the others
+-- the reports that are told after a poll: those of a poll that didn't fail come after the others
 abbrev pub polled_after : PollOut → Option (List Report) → List Report → Option (List Report)
 polled_after Polled told out = option_map (λ reports. reports ++ out) told
 polled_after Failed told out = told

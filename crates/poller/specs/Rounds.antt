@@ -1,5 +1,7 @@
--- To be believed: what a poll of a memory net does: it meets its links, raises the words of those that have steps left, and reports just these.
-use Rattle.std.specs.Prelude.{◌≡◌, ℕ, ◌+◌, ◌==◌, ◌||◌, ◌⊎◌, Bool, List, [], ◌∷◌, ◌++◌, Option, Some, None, if◌then◌else◌, length, map, nat_lt}
+-- To be believed: what a poll of a memory net does: it meets its links, raises the words of those that have
+-- steps left, and reports just these.
+use Rattle.std.specs.Prelude.{◌≡◌, ℕ, ◌+◌, ◌==◌, ◌||◌, ◌⊎◌, Bool, List, [], ◌∷◌, ◌++◌, Option, Some, None}
+use Rattle.std.specs.Prelude.{if◌then◌else◌, length, map, nat_lt}
 use Rattle.std.specs.List.{flat_map}
 use Rattle.reg_keys.specs.declared.opening.Opening.{Opening}
 use Rattle.reg_keys.specs.declared.registration.Dirs.TheVariants.{Both}
@@ -21,15 +23,23 @@ pub record Meeting : Type 0 where
   pub entry : Entry
   pub found : ℕ
 
--- the entry that one met stays as: its poller looked once more whether the link had left; where it had it is marked so, and else its word was raised by one
+-- the entry that one met stays as: its poller looked once more whether the link had left; where it had it is
+-- marked so, and else its word was raised by one
 abbrev pub met_as : Entry → ℕ → Entry
-met_as e found = record e { delivery = record e.delivery { left = found; looks = e.delivery.looks + 1; delivered = if found == 0 then e.delivery.delivered + 1 else e.delivery.delivered } }
+met_as e found = record e {
+  delivery = record e.delivery {
+    left = found;
+    looks = e.delivery.looks + 1;
+    delivered = if found == 0 then e.delivery.delivered + 1 else e.delivery.delivered;
+  };
+}
 
 -- what stays of an entry that was met: one at its end leaves
 abbrev pub stays_as : Meeting → List Entry
 stays_as m = if is_done m.entry then [] else met_as m.entry m.found ∷ []
 
--- the opening of an entry whose word was raised when it was met: it isn't at its end, and its link hadn't left
+-- the opening of an entry whose word was raised when it was met: it isn't at its end,
+-- and its link hadn't left
 abbrev pub raised_of : Meeting → List Opening
 raised_of m = if is_done m.entry || nat_lt 0 m.found then [] else m.entry.opening ∷ []
 
@@ -37,8 +47,8 @@ raised_of m = if is_done m.entry || nat_lt 0 m.found then [] else m.entry.openin
 abbrev pub reports_of : List Opening → List Report
 reports_of raised = map (λ (o : Opening). (o, Both)) raised
 
--- A poll goes round the entries in their order and meets each once, until there are as many reports as fit. Those
--- that it met and that stay come behind those that it didn't meet
+-- A poll goes round the entries in their order and meets each once, until there are as many reports as fit.
+-- Those that it met and that stay come behind those that it didn't meet
 pub record IsRound (old new : List Entry) (reports : List Report) : Type 0 where
   pub met : List Meeting
   pub others : List Entry
@@ -47,7 +57,7 @@ pub record IsRound (old new : List Entry) (reports : List Report) : Type 0 where
   pub given : reports ≡ reports_of (flat_map raised_of met)
   pub ends : (others ≡ []) ⊎ (length reports ≡ REPORTS)
 
--- a poll is on its way round, and so many entries weren't met
+-- a poll is on its way round, and this many entries weren't met
 pub record Rounding (old now : List Entry) (reports : List Report) (n : ℕ) : Type 0 where
   pub met : List Meeting
   pub others : List Entry
@@ -62,7 +72,7 @@ pub record HasMet (old : Entry) (stays : Bool) (new : Entry) (reports reports' :
   pub kept : (if stays then new ∷ [] else []) ≡ stays_as (record { entry = old; found = found })
   pub given : reports' ≡ reports ++ reports_of (raised_of (record { entry = old; found = found }))
 
--- the first entry was met, and went behind the others where it stays
+-- the first entry was met, and went after the others where it stays
 pub record HasMetFirst (old new : List Entry) (reports reports' : List Report) : Type 0 where
   pub met : Meeting
   pub others : List Entry
@@ -82,9 +92,12 @@ HasNoEntries poller = poller.entries.items ≡ []
 abbrev pub no_faults : PollerFaults
 no_faults = record { links = 0; polls = 0 }
 
--- an add puts the delivery that a link or a listener had behind the entries, and changes nothing where that was added before or memory was short
-abbrev pub Adding : Opening → Option DeliveryState → Option DeliveryState → List Entry → List Entry → AddOut → Type 0
+-- an add puts the delivery that a link or a listener had after the entries, and changes nothing where that
+-- was added before or memory was short
+abbrev pub Adding : Opening → Option DeliveryState → Option DeliveryState → List Entry
+    → List Entry → AddOut → Type 0
 Adding opening None fed old new result = (result ≡ Adds.Added) × (fed ≡ None) × (new ≡ old)
-Adding opening (Some delivery) fed old new Adds.Added = (fed ≡ None) × (new ≡ old ++ record { opening = opening; delivery = delivery } ∷ [])
+Adding opening (Some delivery) fed old new Adds.Added =
+    (fed ≡ None) × (new ≡ old ++ record { opening = opening; delivery = delivery } ∷ [])
 Adding opening (Some delivery) fed old new Adds.NoMemory = (fed ≡ Some delivery) × (new ≡ old)
 Adding opening (Some delivery) fed old new Adds.Failed = ⊥

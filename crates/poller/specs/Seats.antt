@@ -22,7 +22,9 @@ knowledge_of seat = seat.me.0
 
 -- the seat is one of the net's
 abbrev pub IsOf : Net → Seat ℕ SeatKnowledge → Type 0
-IsOf net seat = (seat.table_id ≡ table_of net) × (seat.me.1 ≡ []) × ((knowledge_of seat).limits ≡ limits_of (scripts_of net))
+IsOf net seat =
+    (seat.table_id ≡ table_of net) × (seat.me.1 ≡ [])
+    × ((knowledge_of seat).limits ≡ limits_of (scripts_of net))
 
 -- the seat reads a word
 abbrev pub IsReader : Seat ℕ SeatKnowledge → ℕ → Type 0

@@ -36,9 +36,17 @@ impl DeliverySeat {
         requires own { IsOf (arc_value net) seat }
         requires inside { word < length (limits_of (scripts_of (arc_value net))) }
         requires alone { IsDeliverer seat word }
-        requires fresh { ((knowledge_of seat).seen ≡ 0) × ((knowledge_of seat).looks ≡ 0) × ((knowledge_of seat).left ≡ 0) }
+        requires fresh { ((knowledge_of seat).seen ≡ 0) × ((knowledge_of seat).looks ≡ 0)
+            × ((knowledge_of seat).left ≡ 0) }
         requires most { limit ≡ slice_index (limits_of (scripts_of (arc_value net))) word }
-        ensures { result ≡ record { table = table_of (arc_value net); word = word; delivered = 0; limit = limit; left = 0; looks = 0 } }
+        ensures { result ≡ record {
+          table = table_of (arc_value net);
+          word = word;
+          delivered = 0;
+          limit = limit;
+          left = 0;
+          looks = 0;
+        } }
     {
         DeliverySeat {
             net,

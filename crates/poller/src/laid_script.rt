@@ -23,7 +23,8 @@ pub(crate) struct LaidScript {
 /// Lays the steps of a script end to end.
 pub(crate) fn lay_out(alloc: Global, steps: &[ScriptStep]) -> Result<LaidScript, AllocError>
     requires { length steps.now < 2 ^ 32 }
-    ensures { IfOk result (λ script. Lays steps.now (length steps.now) script.input.items script.reached.items) }
+    ensures { IfOk result
+        (λ script. Lays steps.now (length steps.now) script.input.items script.reached.items) }
 {
     let mut input = Vec::new(alloc);
     let mut allowance = 0u64;

@@ -16,10 +16,11 @@ pub fn raises_are_lawful()
 /// A load that answers its caller to wait is lawful wherever it comes, with each mark that was told of a live
 /// opening.
 pub fn waits_are_lawful()
-    ensures { (s : ℕ) (c : ℕ) (w : World) (o : Opening) (d : Dir) (m : ℕ) → WasTold s c w o d m → WaitIsLawful s c w o d m }
+    ensures { (s : ℕ) (c : ℕ) (w : World) (o : Opening) (d : Dir) (m : ℕ) → WasTold s c w o d m
+        → WaitIsLawful s c w o d m }
 {}
 
-/// While a link or a listener stands, its note is nought, so a poller that looks there never finds that it
+/// While a link or a listener stands, its note is zero, so a poller that looks there never finds that it
 /// has left. A poll meets each entry and looks once (`MemPoller::poll`), so a link that stands is reported as
 /// long as it has steps left.
 pub fn notes_are_of_links_that_left()

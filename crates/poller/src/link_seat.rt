@@ -48,8 +48,16 @@ impl LinkSeat {
         requires reads { IsReader seat word }
         requires fresh { ((knowledge_of seat).seen ≡ 0) × ((knowledge_of seat).looks ≡ 0) }
         requires stands { (knowledge_of seat).gone ≡ false }
-        requires delivery { (delivery.table ≡ table_of (arc_value net)) × (delivery.word ≡ word) × (delivery.limit ≡ slice_index (limits_of (scripts_of (arc_value net))) word) }
-        ensures { result ≡ record { table = table_of (arc_value net); scripts = scripts_of (arc_value net); word = word; delivered = 0; looks = 0; delivery = Some delivery } }
+        requires delivery { (delivery.table ≡ table_of (arc_value net)) × (delivery.word ≡ word)
+            × (delivery.limit ≡ slice_index (limits_of (scripts_of (arc_value net))) word) }
+        ensures { result ≡ record {
+          table = table_of (arc_value net);
+          scripts = scripts_of (arc_value net);
+          word = word;
+          delivered = 0;
+          looks = 0;
+          delivery = Some delivery;
+        } }
     {
         LinkSeat {
             net,

@@ -21,7 +21,8 @@ pub struct MemLink {
     read_waits: Count,
     write_waits: Count,
     ghost links: { 1 ≤ seat.word },
-    ghost laid: { Lays (steps_at seat.scripts (seat.word - 1)) (length (steps_at seat.scripts (seat.word - 1))) script.input.items script.reached.items },
+    ghost laid: { Lays (steps_at seat.scripts (seat.word - 1))
+        (length (steps_at seat.scripts (seat.word - 1))) script.input.items script.reached.items },
     ghost over: { IsTrue ended → length (pieces_in (steps_at seat.scripts (seat.word - 1))) ≤ given },
 }
 
@@ -31,9 +32,19 @@ impl MemLink {
     /// The link of a seat, of which nothing was asked yet.
     pub(crate) fn new(seat: LinkSeat, script: LaidScript, room: Room) -> MemLink
         requires links { IsLinks seat }
-        requires laid { Lays (script_of seat) (length (script_of seat)) script.input.items script.reached.items }
+        requires laid { Lays (script_of seat)
+            (length (script_of seat)) script.input.items script.reached.items }
         ensures seat { result.seat ≡ seat }
-        ensures is { net_link_of result ≡ record { number = number_of seat; steps = script_of seat; delivered = seat.delivered; looks = seat.looks; given = 0; ended = false; room = room; delivery = seat.delivery } }
+        ensures is { net_link_of result ≡ record {
+          number = number_of seat;
+          steps = script_of seat;
+          delivered = seat.delivered;
+          looks = seat.looks;
+          given = 0;
+          ended = false;
+          room = room;
+          delivery = seat.delivery;
+        } }
         ensures waits { waits_of result ≡ nothing_counted }
     {
         MemLink {
@@ -83,13 +94,16 @@ impl MemLink {
         ensures later { (net_link_of self.old).delivered ≤ result }
         ensures most { result ≤ length (net_link_of self.new).steps }
         ensures looked { (net_link_of self.new).looks ≡ (net_link_of self.old).looks + 1 }
-        ensures same { net_link_of self.old ≡ record (net_link_of self.new) { delivered = (net_link_of self.old).delivered; looks = (net_link_of self.old).looks } }
+        ensures same { net_link_of self.old ≡ record (net_link_of self.new) {
+          delivered = (net_link_of self.old).delivered;
+          looks = (net_link_of self.old).looks;
+        } }
         ensures waits { waits_of self.new ≡ waits_of self.old }
     {
         self.seat.delivered() as usize
     }
 
-    /// How far the script goes once so many steps were delivered.
+    /// How far the script goes once this many steps were delivered.
     fn reach(&self, delivered: usize) -> Reached
         requires { delivered ≤ length (script_of self.now.seat) }
         ensures input { result.input ≡ length (pieces_in (take delivered (script_of self.now.seat))) }
@@ -99,7 +113,7 @@ impl MemLink {
         self.script.reached[delivered]
     }
 
-    /// How many bytes it can take once so many steps were delivered.
+    /// How many bytes it can take once this many steps were delivered.
     fn can_take(&self, delivered: usize) -> usize
         requires found { delivered ≡ (net_link_of self.now).delivered }
         requires most { delivered ≤ length (script_of self.now.seat) }
@@ -128,7 +142,8 @@ impl Link for MemLink {
     fn read(&mut self, buf: &mut [u8]) -> ReadOut
         requires { 0 < length buf.old }
         ensures within { GivesWithin result buf.new }
-        ensures takes { given_of (net_link_of self.new) ≡ given_of (net_link_of self.old) ++ bytes_got result buf.new }
+        ensures takes { given_of (net_link_of self.new)
+            ≡ given_of (net_link_of self.old) ++ bytes_got result buf.new }
         ensures ends { (net_link_of self.new).ended ≡ ((net_link_of self.old).ended || is_end result) }
         ensures plays { ReadsNet (net_link_of self.old) (net_link_of self.new) result buf.new }
         ensures waited { ReadWaits result (waits_of self.old) (waits_of self.new) }
@@ -152,7 +167,8 @@ impl Link for MemLink {
         requires { 0 < length piece.now }
         ensures within { TakesWithin result piece.now }
         ensures sends { (net_link_of self.new).room
-            ≡ record (net_link_of self.old).room { stored = (net_link_of self.old).room.stored ++ bytes_taken result piece.now } }
+            ≡ record (net_link_of self.old).room
+            { stored = (net_link_of self.old).room.stored ++ bytes_taken result piece.now } }
         ensures plays { WritesNet (net_link_of self.old) (net_link_of self.new) (length piece.now) result }
         ensures waited { WriteWaits result (waits_of self.old) (waits_of self.new) }
     {

@@ -44,7 +44,8 @@ impl Model for MemListener {
       delivery = listener.seat.delivery;
     } };
 
-    ghost invariant = { λ listener. IsListener listener.seat listener.dealer listener.scripts.items listener.accepted.n };
+    ghost invariant = { λ listener.
+        IsListener listener.seat listener.dealer listener.scripts.items listener.accepted.n };
 }
 
 impl MemListener {
@@ -94,7 +95,8 @@ fn next_link(alloc: Global, dealer: &mut SeatDealer, script: &Script) -> Result<
     requires steps { script.now.steps.items ≡ steps_at dealer.old.scripts (dealer.old.next - 1) }
     requires room { script.now.room ≡ room_at dealer.old.scripts (dealer.old.next - 1) }
     requires short { length script.now.steps.items < 2 ^ 32 }
-    ensures link { IfOk result (λ link. net_link_of link ≡ fresh_net_link dealer.old.table dealer.old.scripts (dealer.old.next - 1)) }
+    ensures link { IfOk result (λ link.
+        net_link_of link ≡ fresh_net_link dealer.old.table dealer.old.scripts (dealer.old.next - 1)) }
     ensures seat { IfOk result (λ link. link.seat ≡ fresh_link_seat dealer.old) }
     ensures waits { IfOk result (λ link. waits_of link ≡ nothing_counted) }
     ensures next { OnOk result (dealer.new ≡ record dealer.old { next = dealer.old.next + 1 }) }
@@ -122,7 +124,8 @@ impl Listener for MemListener {
 
     fn accept(&mut self) -> AcceptOut<MemLink>
         ensures untouched { IfAccepted result (λ link. IsUntouched (told_of link)) }
-        ensures planned { IfAccepted result (λ link. IsPlannedAt (Some (plans_from 0 self.old.scripts)) self.old.accepted.n (told_of link).plan) }
+        ensures planned { IfAccepted result (λ link.
+            IsPlannedAt (Some (plans_from 0 self.old.scripts)) self.old.accepted.n (told_of link).plan) }
         ensures accepts { AcceptsNet self.old self.new result }
         ensures counted { self.new.accepted.n ≡ accepted_after result self.old.accepted.n }
         ensures waited { self.new.waits.n ≡ accept_waits_after result self.old.waits.n }

@@ -21,7 +21,7 @@ use std::sync::Arc;
 pub struct MemNet;
 
 impl MemNet {
-    /// A net of scripts, with so many pollers. There are 1 to 64 pollers and fewer than 2^32 scripts, each
+    /// A net of scripts, with this many pollers. There are 1 to 64 pollers and fewer than 2^32 scripts, each
     /// with fewer than 2^32 steps.
     pub fn new(
         alloc: Global,
@@ -42,7 +42,7 @@ impl MemNet {
     }
 }
 
-/// So many pollers, to which nothing was added.
+/// This many pollers, to which nothing was added.
 fn fresh_pollers(alloc: Global, count: u32) -> Result<Vec<MemPoller>, AllocError>
     ensures count { IfOk result (λ pollers. vec_len pollers ≡ count) }
     ensures empty { IfOk result (λ pollers. All HasNoEntries pollers.items) }

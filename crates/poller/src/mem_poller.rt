@@ -59,7 +59,7 @@ impl MemPoller {
         }
     }
 
-    /// Meets the first entry, which then goes behind the others where it stays.
+    /// Meets the first entry, which then goes after the others where it stays.
     fn meet_first(&mut self, out: &mut Reports)
         requires room { length out.old < REPORTS }
         requires some { 0 < length self.old.entries.items }
@@ -99,12 +99,17 @@ impl Poller for MemPoller {
     ghost use Rattle.poller.specs.NetLinks.{IsSameLink};
     ghost use Rattle.poller.specs.Rounds.{Adding, IsRound, no_faults};
 
-    ghost meaning = { record { faults = λ _. no_faults; polled = λ _. None; polls = λ old idle result out new. (result ≡ Polled) × IsRound old.entries.items new.entries.items out } };
+    ghost meaning = { record {
+      faults = λ _. no_faults;
+      polled = λ _. None;
+      polls = λ old idle result out new. (result ≡ Polled) × IsRound old.entries.items new.entries.items out;
+    } };
 
     fn add(&mut self, opening: Opening, link: &mut MemLink) -> AddOut
         requires { HasToken opening }
         ensures link { IsSameLink link.old link.new }
-        ensures adds { Adding opening link.old.seat.delivery link.new.seat.delivery self.old.entries.items self.new.entries.items result }
+        ensures adds { Adding opening link.old.seat.delivery link.new.seat.delivery
+            self.old.entries.items self.new.entries.items result }
     {
         if link.is_added() {
             return AddOut::Added;
@@ -121,7 +126,8 @@ impl Poller for MemPoller {
     fn add_listener(&mut self, opening: Opening, listener: &mut MemListener) -> AddOut
         requires { HasToken opening }
         ensures listener { listener.new ≡ record listener.old { delivery = listener.new.delivery } }
-        ensures adds { Adding opening listener.old.delivery listener.new.delivery self.old.entries.items self.new.entries.items result }
+        ensures adds { Adding opening listener.old.delivery listener.new.delivery self.old.entries.items
+            self.new.entries.items result }
     {
         if listener.is_added() {
             return AddOut::Added;
@@ -144,5 +150,6 @@ impl Poller for MemPoller {
         PollOut::Polled
     }
 
-    ghost polls_alone = { λ old idle result out new polls. record { links = refl; later = Prim.omega arith } };
+    ghost polls_alone = { λ old idle result out new polls.
+        record { links = refl; later = Prim.omega arith } };
 }

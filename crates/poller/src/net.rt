@@ -3,8 +3,8 @@
 //! There is a word for the listener, number 0, and one for each script, from 1 on: it counts the steps that
 //! were delivered. One seat alone may raise a word, so what the word has is known to that seat. Others read
 //! it, and what they find is no less than what they found before and no more than the script has. One seat
-//! alone reads a word. Behind these words stands for each one more, its note, in which the seat that reads
-//! the word notes that it leaves, and which is nought as long as that seat stands.
+//! alone reads a word. After these words stands for each one more, its note, in which the seat that reads
+//! the word notes that it leaves, and which is zero as long as that seat stands.
 ghost use Rattle.std.specs.Prelude.{◌≡◌, ◌≤◌, ◌<◌, ◌+◌, ◌*◌, ◌^◌, ◌↔◌, IfOk, IsTrue, length, slice_index, true};
 ghost use Rattle.poller.specs.Deliveries.{HasWords, IsNet, deliverer_of, first_of, first_knowledge, limits_of, others_of, reader_of};
 
@@ -26,23 +26,25 @@ impl TableRule<u8, SeatKnowledge, Vec<Script>> for Deliveries {
     ghost first = { λ key. first_knowledge (limits_of key.items) };
 }
 
-/// The words: so many that are counted in, and as many in which links note that they leave.
+/// The words: those that are counted in, and as many in which links note that they leave.
 #[derive(Drop)]
 pub(crate) struct Net {
     table: Table<u8, SeatKnowledge, Vec<Script>, Deliveries, Global>,
     counts: usize,
-    ghost sized: { (table.shared.table_id.words ≡ 2 * counts) × (counts ≡ length (limits_of table.shared.key.items)) },
+    ghost sized: { (table.shared.table_id.words ≡ 2 * counts)
+        × (counts ≡ length (limits_of table.shared.key.items)) },
 }
 
 impl Net {
     ghost use Rattle.poller.specs.Seats.{IsDeliverer, IsOf, IsReader, scripts_of, knowledge_of};
 
-    /// Words that are nought, and the seat that raises all of them.
+    /// Words that are zero, and the seat that raises all of them.
     pub(crate) fn open(alloc: Global, scripts: &Vec<Script>) -> Result<(Net, NetSeat), AllocError>
         requires { length scripts.now.items < 2 ^ 32 }
         ensures scripts { IfOk result (λ net. scripts_of net.0 ≡ scripts.now.items) }
         ensures own { IfOk result (λ net. IsOf net.0 net.1) }
-        ensures all { IfOk result (λ net. knowledge_of net.1 ≡ first_knowledge (limits_of scripts.now.items)) }
+        ensures all { IfOk result
+            (λ net. knowledge_of net.1 ≡ first_knowledge (limits_of scripts.now.items)) }
     {
         let counts = scripts.len() + 1;
         let words = vec![in alloc; 0u64; 2 * counts]?;
@@ -58,7 +60,8 @@ impl Net {
         requires below { (knowledge_of seat.old).seen < slice_index (limits_of (scripts_of self.now)) word }
         requires small { (knowledge_of seat.old).seen + 1 < 2 ^ 64 }
         ensures own { IsOf self.now seat.new }
-        ensures delivered { knowledge_of seat.new ≡ record (knowledge_of seat.old) { seen = (knowledge_of seat.old).seen + 1 } }
+        ensures delivered { knowledge_of seat.new
+            ≡ record (knowledge_of seat.old) { seen = (knowledge_of seat.old).seen + 1 } }
     {
         self.table.shared.fetch_add::<Deliver>(seat, word, 1);
     }
@@ -69,7 +72,8 @@ impl Net {
         requires inside { word < length (limits_of (scripts_of self.now)) }
         requires reads { IsReader seat.old word }
         ensures own { IsOf self.now seat.new }
-        ensures found { knowledge_of seat.new ≡ record (knowledge_of seat.old) { seen = result; looks = (knowledge_of seat.old).looks + 1 } }
+        ensures found { knowledge_of seat.new
+            ≡ record (knowledge_of seat.old) { seen = result; looks = (knowledge_of seat.old).looks + 1 } }
         ensures later { (knowledge_of seat.old).seen ≤ result }
         ensures most { result ≤ slice_index (limits_of (scripts_of self.now)) word }
     {
@@ -82,7 +86,10 @@ impl Net {
         requires inside { word < length (limits_of (scripts_of self.now)) }
         requires delivers { IsDeliverer seat.old word }
         ensures own { IsOf self.now seat.new }
-        ensures found { knowledge_of seat.new ≡ record (knowledge_of seat.old) { left = (knowledge_of seat.new).left; looks = (knowledge_of seat.old).looks + 1 } }
+        ensures found { knowledge_of seat.new ≡ record (knowledge_of seat.old) {
+          left = (knowledge_of seat.new).left;
+          looks = (knowledge_of seat.old).looks + 1;
+        } }
         ensures left { IsTrue result ↔ (0 < (knowledge_of seat.new).left) }
     {
         self.table.shared.load::<Look>(seat, self.counts + word) > 0
@@ -107,8 +114,10 @@ impl Net {
         requires some { HasWords (length (limits_of (scripts_of self.now))) (knowledge_of seat.old).role }
         ensures own { IsOf self.now seat.new }
         ensures other { IsOf self.now result }
-        ensures others { knowledge_of seat.new ≡ record (knowledge_of seat.old) { role = others_of (knowledge_of seat.old).role } }
-        ensures first { knowledge_of result ≡ record (knowledge_of seat.old) { role = first_of (knowledge_of seat.old).role } }
+        ensures others { knowledge_of seat.new
+            ≡ record (knowledge_of seat.old) { role = others_of (knowledge_of seat.old).role } }
+        ensures first { knowledge_of result
+            ≡ record (knowledge_of seat.old) { role = first_of (knowledge_of seat.old).role } }
     {
         self.table.shared.split_seat::<First>(seat)
     }
@@ -120,8 +129,10 @@ impl Net {
         requires some { HasWords (length (limits_of (scripts_of self.now))) (knowledge_of seat.old).role }
         ensures own { IsOf self.now seat.new }
         ensures other { IsOf self.now result }
-        ensures delivers { knowledge_of seat.new ≡ record (knowledge_of seat.old) { role = deliverer_of (knowledge_of seat.old).role } }
-        ensures reads { knowledge_of result ≡ record (knowledge_of seat.old) { role = reader_of (knowledge_of seat.old).role } }
+        ensures delivers { knowledge_of seat.new
+            ≡ record (knowledge_of seat.old) { role = deliverer_of (knowledge_of seat.old).role } }
+        ensures reads { knowledge_of result
+            ≡ record (knowledge_of seat.old) { role = reader_of (knowledge_of seat.old).role } }
     {
         self.table.shared.split_seat::<Reading>(seat)
     }

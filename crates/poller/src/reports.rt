@@ -24,7 +24,8 @@ impl Model for Reports {
 
     ghost view = { λ reports. reports.pairs.items };
 
-    ghost invariant = { λ reports. REPORTS ≤ deque_capacity reports.pairs × length reports.pairs.items ≤ REPORTS };
+    ghost invariant = { λ reports.
+        REPORTS ≤ deque_capacity reports.pairs × length reports.pairs.items ≤ REPORTS };
 }
 
 impl Reports {
@@ -54,12 +55,13 @@ impl Reports {
 
     /// Takes the first report.
     pub fn pop_first(&mut self) -> Option<(Opening, Dirs)>
-        ensures { MatchOption result ((self.old ≡ []) × (self.new ≡ [])) (λ report. self.old ≡ report ∷ self.new) }
+        ensures { MatchOption result ((self.old ≡ []) × (self.new ≡ []))
+            (λ report. self.old ≡ report ∷ self.new) }
     {
         self.pairs.pop_front()
     }
 
-    /// Puts a report behind the others. It is false exactly where the ring is full, and then nothing changes.
+    /// Puts a report after the others. It is false exactly where the ring is full, and then nothing changes.
     pub fn push(&mut self, opening: Opening, dirs: Dirs) -> bool
         ensures room { IsTrue result ↔ (length self.old < REPORTS) }
         ensures pushed { self.new ≡ (if result then self.old ++ (opening, dirs) ∷ [] else self.old) }

@@ -24,7 +24,11 @@ pub(crate) struct SeatDealer {
 impl Model for SeatDealer {
     ghost Value = { DealerState };
 
-    ghost view = { λ dealer. record { table = table_of (arc_value dealer.net); scripts = scripts_of (arc_value dealer.net); next = dealer.next } };
+    ghost view = { λ dealer. record {
+      table = table_of (arc_value dealer.net);
+      scripts = scripts_of (arc_value dealer.net);
+      next = dealer.next;
+    } };
 
     ghost invariant = { λ dealer. IsDealer (arc_value dealer.net) dealer.seat dealer.next };
 }
@@ -34,7 +38,8 @@ impl SeatDealer {
     pub(crate) fn new(net: Arc<Net, Global>, seat: NetSeat) -> SeatDealer
         requires own { IsOf (arc_value net) seat }
         requires all { knowledge_of seat ≡ first_knowledge (limits_of (scripts_of (arc_value net))) }
-        ensures { result ≡ record { table = table_of (arc_value net); scripts = scripts_of (arc_value net); next = 0 } }
+        ensures { result
+            ≡ record { table = table_of (arc_value net); scripts = scripts_of (arc_value net); next = 0 } }
     {
         SeatDealer { net, seat, next: 0 }
     }

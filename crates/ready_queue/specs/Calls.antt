@@ -38,7 +38,9 @@ IsOf q p = IsPassOf q.ring p.seat × ((view_of p).name ≡ capacity_of q ∷ [])
 abbrev pub HasAllSeats : View Move → Type 0
 HasAllSeats v = (n : ℕ) → Within n v.classes
 
--- The move was made. What the pass then has seen is a history of the queue, which begins with all that it had seen and ends with the move, under the pass's seat; between are moves of other seats alone. So of the pass's own moves it alone is new, and nothing else that it knows has changed
+-- The move was made. What the pass then has seen is a history of the queue, which begins with all that it had
+-- seen and ends with the move, under the pass's seat; between are moves of other seats alone. So of the
+-- pass's own moves it alone is new, and nothing else that it knows has changed
 pub record HasMoved (capacity : ℕ) (m : Move) (v w : View Move) : Type 0 where
   pub between : QueueLog
   pub seen : w.seen ≡ (v.seen ++ between) ++ (seat_of v, m) ∷ []
@@ -47,7 +49,10 @@ pub record HasMoved (capacity : ℕ) (m : Move) (v w : View Move) : Type 0 where
   pub rest : w ≡ saw w.seen v
   pub legal : IsQueueHistory capacity w.seen
 
--- Nothing was moved. There is a history of the queue that goes on from what the pass has seen by moves of other seats, and that has filled it. Where the pass has all seats, this is the queue's own history at a step of the call, so the queue was full there. Where it lacks a seat there always is such a history, and this says nothing of the queue
+-- Nothing was moved. There is a history of the queue that goes on from what the pass has seen by moves of
+-- other seats, and that has filled it. Where the pass has all seats, this is the queue's own history at a
+-- step of the call, so the queue was full there. Where it lacks a seat there always is such a history, and
+-- this says nothing of the queue
 pub record WasFull (capacity : ℕ) (v w : View Move) : Type 0 where
   pub same : w ≡ v
   pub log : QueueLog
@@ -55,7 +60,10 @@ pub record WasFull (capacity : ℕ) (v w : View Move) : Type 0 where
   pub legal : IsQueueHistory capacity log
   pub full : length (held_after log) ≡ capacity
 
--- Nothing was moved. There is a history of the queue that goes on from what the pass has seen by moves of other seats, and that has emptied it. Where the pass has all seats, this is the queue's own history at a step of the call, so the queue was empty there. Where it lacks a seat there always is such a history, and this says nothing of the queue
+-- Nothing was moved. There is a history of the queue that goes on from what the pass has seen by moves of
+-- other seats, and that has emptied it. Where the pass has all seats, this is the queue's own history at a
+-- step of the call, so the queue was empty there. Where it lacks a seat there always is such a history, and
+-- this says nothing of the queue
 pub record WasEmpty (capacity : ℕ) (v w : View Move) : Type 0 where
   pub same : w ≡ v
   pub log : QueueLog

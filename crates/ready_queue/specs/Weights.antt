@@ -1,4 +1,5 @@
--- To be believed: what the moves of a history weigh, by which the accounts of several passes are added up: with 1 for one event and 0 for the others, a weight counts.
+-- To be believed: what the moves of a history weigh, by which the accounts of several passes are added up:
+-- with 1 for one event and 0 for the others, a weight counts.
 use Rattle.std.specs.Prelude.{ℕ}
 use Rattle.reg_keys.specs.declared.event.EventName.{EventName}
 use Rattle.turn_cell.specs.Weights.{weigh}

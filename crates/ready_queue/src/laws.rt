@@ -8,8 +8,8 @@ ghost use Rattle.ready_queue.specs.Calls.{HasAllSeats, WasFull, WasEmpty};
 use crate::rule::Move;
 use turn_cell::all_seats_see_all;
 
-/// What was taken, in order, and then what is held, in order, is what was put, in order. So an event is taken at most
-/// as often as it was put, and the one that was put first is taken first.
+/// What was taken, in order, and then what is held, in order, is what was put, in order. So an event is taken
+/// at most as often as it was put, and the one that was put first is taken first.
 pub fn histories_are_first_in_first_out()
     ensures { (capacity : ℕ) (log : QueueLog) → IsQueueHistory capacity log
         → taken_in log ++ held_after log ≡ put_in log }
@@ -27,8 +27,9 @@ pub fn histories_begin_with_histories()
         → IsQueueHistory capacity seen }
 {}
 
-/// To a pass that has all seats each answer is exact: what it has seen is the whole history, and a full queue holds as
-/// many events as its capacity, an empty one none. Of a pass that lacks a seat nothing follows from either answer.
+/// To a pass that has all seats each answer is exact: what it has seen is the whole history, and a
+/// full queue holds as many events as its capacity, an empty one none. Of a pass that lacks a seat
+/// nothing follows from either answer.
 pub fn answers_to_all_seats_are_exact()
     ensures full { (capacity : ℕ) (v w : View Move) → HasAllSeats v → WasFull capacity v w
         → length (held_after v.seen) ≡ capacity }

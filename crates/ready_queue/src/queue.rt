@@ -18,7 +18,8 @@ pub struct ReadyQueue {
     ring: RuledArrayQueue<Event, View<Move>, Order, Global>,
 }
 
-/// What a thread makes calls on a queue with. It has no bytes. It is of one queue, and belongs to whoever holds it:
+/// What a thread makes calls on a queue with. It has no bytes. It is of one queue, and
+/// belongs to whoever holds it:
 /// dropping it leaves its seats to nobody.
 #[derive(Drop)]
 pub struct QPass {
@@ -33,8 +34,9 @@ pub enum PutOut {
     Put,
     /// The queue held as many events as its capacity, at a step of the call. The event is handed back.
     ///
-    /// That it was so is proved of a pass that has all seats. To any other the queue may have been filled by moves
-    /// of seats that aren't the pass's, of which its contract knows nothing: there this is shown by tests.
+    /// That it was so is proved of a pass that has all seats. To any other the queue may have
+    /// been filled by moves of seats that aren't the pass's, of which its contract knows
+    /// nothing: there this is shown by tests.
     Full(Event),
 }
 
@@ -52,8 +54,8 @@ impl ReadyQueue {
     ghost use Rattle.turn_cell.specs.View.{first_view};
     ghost use Rattle.ready_queue.specs.Calls.{IsOf, view_of, capacity_of, HasPut, HasTaken};
 
-    /// An empty queue for up to `capacity` events, and its first pass, which has all seats and has seen nothing. All
-    /// its memory is taken here.
+    /// An empty queue for up to `capacity` events, and its first pass, which has all seats and has seen
+    /// nothing. All its memory is taken here.
     pub fn new(alloc: Global, capacity: u32) -> Result<(ReadyQueue, QPass), AllocError>
         requires some { 0 < capacity }
         ensures capacity { IfOk result (λ q. capacity_of q.0 ≡ capacity) }
@@ -67,8 +69,8 @@ impl ReadyQueue {
 
     /// Puts an event at the back of the queue.
     ///
-    /// It waits for no event to be taken: a full queue hands the event back. It may wait for another thread's `put`
-    /// or `take` that has begun.
+    /// It waits for no event to be taken: a full queue hands the event back. It may wait for another thread's
+    /// `put` or `take` that has begun.
     pub fn put<R: Wait>(&self, rt: &R, pass: &mut QPass, event: Event) -> PutOut
         requires own { IsOf self.now pass.old }
         ensures own { IsOf self.now pass.new }
@@ -98,8 +100,8 @@ impl ReadyQueue {
         }
     }
 
-    /// A pass that has seen what this one has, with no moves of its own. It takes half of this one's first class of
-    /// seats. It takes no memory, and always succeeds.
+    /// A pass that has seen what this one has, with no moves of its own. It takes half of this one's first
+    /// class of seats. It takes no memory, and always succeeds.
     pub fn split(&self, pass: &mut QPass) -> Result<QPass, AllocError>
         requires { IsOf self.now pass.old }
         ensures own { IsOf self.now pass.new }

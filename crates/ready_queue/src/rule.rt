@@ -1,8 +1,8 @@
 //! The rule of a ready queue, which holds between any two steps of any threads.
 //!
-//! There is one list of moves, which no memory has: what the ring holds is the events put in it less those taken,
-//! each move was allowed where it was made, what each pass has seen begins it, and no seat is of two passes. What a
-//! pass knows is the view of a turn cell's pass, whose name is here the capacity.
+//! There is one list of moves, which no memory has: what the ring holds is the events put in it less those
+//! taken, each move was allowed where it was made, what each pass has seen begins it, and no seat is of two
+//! passes. What a pass knows is the view of a turn cell's pass, whose name is here the capacity.
 ghost use Rattle.std.specs.Prelude.{Option, None, ℕ};
 ghost use Rattle.turn_cell.specs.View.{left_of, right_of, both_of, gone_view};
 ghost use Rattle.ready_queue.specs.declared.rule.Move.TheVariants.{Put, Taken};

@@ -1,8 +1,8 @@
-// A small queue on one thread, and one that several threads share.
+//! A small queue on one thread, and one that several threads share.
 ghost use Rattle.std.specs.Prelude.{◌≡◌, All, IfOk};
 ghost use Rattle.ready_queue.specs.Calls.{IsOf};
 
-use super::*;
+use crate::{PutOut, QPass, ReadyQueue, TakeOut};
 use reg_keys::{Event, Opening};
 use std::alloc::{AllocError, Global};
 use std::sync::Wait;
@@ -128,7 +128,7 @@ fn put_all<R: Wait>(rt: &R, queue: &ReadyQueue, putter: &mut Putter)
     }
 }
 
-/// Takes events until so many were taken by all takers together.
+/// Takes events until this many were taken by all takers together.
 fn take_all<R: Wait>(rt: &R, queue: &ReadyQueue, taker: &mut Taker, count: &AtomicU64)
     requires { IsOf queue.now taker.old.pass }
     ensures { IsOf queue.now taker.new.pass }

@@ -7,4 +7,8 @@ use Rattle.reg_keys.proofs.Ascending.{ascends, lists_ascend}
 use Rattle.reg_keys.proofs.FlagsWait.{flags_agree}
 
 pub is_consistent : (s c : ℕ) (past : List Entry) → IsLegal s c past → IsConsistent past
-is_consistent s c past l = record { in_order = ascends s c past l; lists = lists_ascend s c past l; flags = (flags_agree s c past l).agree }
+is_consistent s c past l = record {
+  in_order = ascends s c past l;
+  lists = lists_ascend s c past l;
+  flags = (flags_agree s c past l).agree;
+}

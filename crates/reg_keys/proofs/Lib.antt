@@ -1,5 +1,3 @@
-pub mod TestLemmas
-pub mod Pasts
 pub mod RightReplies
 pub mod EndsOnce
 pub mod Removal

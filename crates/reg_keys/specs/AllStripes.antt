@@ -16,8 +16,10 @@ sum_below (suc n) g = g n + sum_below n g
 abbrev pub AreLegal : (ℕ → ℕ) → (ℕ → List Entry) → Type 0
 AreLegal firsts pasts = (s : ℕ) → s < 32 → IsLegal s (firsts s) (pasts s)
 
--- over all stripes each number is drawn once at most, so each opening is made once at most, and each key runs once at most
+-- over all stripes each number is drawn once at most, so each opening is made once at most,
+-- and each key runs once at most
 pub record HappensOnce (firsts : ℕ → ℕ) (pasts : ℕ → List Entry) : Type 0 where
-  pub numbers : (n : ℕ) → sum_below 32 (λ s. times_reported s (firsts s) n (pasts s) + weight (draws n) (pasts s)) ≤ 1
+  pub numbers : (n : ℕ)
+      → sum_below 32 (λ s. times_reported s (firsts s) n (pasts s) + weight (draws n) (pasts s)) ≤ 1
   pub openings : (o : Opening) → sum_below 32 (λ s. weight (opens o) (pasts s)) ≤ 1
   pub runs : (k : Key) → sum_below 32 (λ s. weight (times_run k) (pasts s)) ≤ 1

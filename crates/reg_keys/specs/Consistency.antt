@@ -7,7 +7,8 @@ use Rattle.reg_keys.specs.declared.entry.CloseOutcome.TheVariants.{Shut}
 use Rattle.reg_keys.specs.declared.entry.Entry.{Entry}
 use Rattle.reg_keys.specs.declared.entry.Entry.TheVariants.{Dispatch, Close}
 use Rattle.reg_keys.specs.Tests.{same_key, IsIn}
-use Rattle.reg_keys.specs.Histories.{keys_run, keys_shut, Registered, waiting, Standing, StillWaits, Unasked, unasked}
+use Rattle.reg_keys.specs.Histories.{keys_run, keys_shut, Registered, waiting, Standing, StillWaits, Unasked}
+use Rattle.reg_keys.specs.Histories.{unasked}
 use Rattle.reg_keys.specs.Replies.{is_flag}
 
 -- each key is greater than those before it

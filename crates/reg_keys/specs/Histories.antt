@@ -1,7 +1,8 @@
 -- To be believed: what holds after a history of one stripe.
 -- Each definition reads the history as a past: the list of its entries, the latest first, so that it can
 -- say what the latest entry changes. `s` is the stripe, and `c` the count that the stripe began with.
-use Rattle.std.specs.Prelude.{◌≡◌, ℕ, ◌+◌, ◌*◌, ◌&&◌, ◌||◌, ◌==◌, not, List, [], ◌∷◌, ◌++◌, map, filter, reverse, true, false, Bool, Option, Some, None, if◌then◌else◌}
+use Rattle.std.specs.Prelude.{◌≡◌, ℕ, ◌+◌, ◌*◌, ◌&&◌, ◌||◌, ◌==◌, not, List, [], ◌∷◌, ◌++◌, map, filter}
+use Rattle.std.specs.Prelude.{reverse, true, false, Bool, Option, Some, None, if◌then◌else◌}
 use Rattle.std.specs.List.{list_any}
 use Rattle.reg_keys.specs.declared.opening.Opening.{Opening}
 use Rattle.reg_keys.specs.declared.event.EventName.{EventName}
@@ -21,7 +22,8 @@ use Rattle.reg_keys.specs.declared.entry.AskOutcome.TheVariants as Asked
 use Rattle.reg_keys.specs.declared.entry.DispatchOutcome.TheVariants.{Ran}
 use Rattle.reg_keys.specs.declared.entry.CloseOutcome.TheVariants.{Shut}
 use Rattle.reg_keys.specs.declared.entry.Entry.{Entry}
-use Rattle.reg_keys.specs.declared.entry.Entry.TheVariants.{Open, Report, Register, Withdraw, Ask, Dispatch, Close}
+use Rattle.reg_keys.specs.declared.entry.Entry.TheVariants.{Open, Report, Register, Withdraw, Ask, Dispatch}
+use Rattle.reg_keys.specs.declared.entry.Entry.TheVariants.{Close}
 use Rattle.reg_keys.specs.Tests.{same, same_key, same_event, same_dir, has_dir}
 
 -- the past of a history that is listed in the order of its entries, the latest last
@@ -35,7 +37,8 @@ abbrev pub count_named : Option EventName → ℕ → ℕ
 count_named None n = n
 count_named (Some e) n = n + 1
 
--- the count: the first one, and one more for each number drawn since. An opening, an accepted report and a registration draw one each, and then an event one more.
+-- the count: the first one, and one more for each number drawn since. An opening, an accepted report and a
+-- registration draw one each, and then an event one more.
 abbrev pub count_after : ℕ → List Entry → ℕ
 count_after c [] = c
 count_after c (Open fd (Opened o) ∷ past) = count_after c past + 1
@@ -76,7 +79,8 @@ IsLive past o = is_live past o ≡ true
 abbrev pub mark_of : ℕ → ℕ → List Entry → Opening → Dir → ℕ
 mark_of s c [] o d = o.number
 mark_of s c (Open fd (Opened p) ∷ past) o d = if same p o then o.number else mark_of s c past o d
-mark_of s c (Report p ds (Noted e) ∷ past) o d = if same p o && has_dir ds d then next_number s c past else mark_of s c past o d
+mark_of s c (Report p ds (Noted e) ∷ past) o d =
+    if same p o && has_dir ds d then next_number s c past else mark_of s c past o d
 mark_of s c (_ ∷ past) o d = mark_of s c past o d
 
 -- both marks of an opening
@@ -88,12 +92,14 @@ abbrev pub names_mark : ℕ → Option ℕ → Bool
 names_mark now None = false
 names_mark now (Some m) = m == now
 
--- whether a direction counts as ready: from the opening on and after each report that names it, until a registration names its mark
+-- whether a direction counts as ready: from the opening on and after each report that names it,
+-- until a registration names its mark
 abbrev pub ready_bits : ℕ → ℕ → List Entry → Opening → Dir → Bool
 ready_bits s c [] o d = false
 ready_bits s c (Open fd (Opened p) ∷ past) o d = same p o || ready_bits s c past o d
 ready_bits s c (Report p ds (Noted e) ∷ past) o d = (same p o && has_dir ds d) || ready_bits s c past o d
-ready_bits s c (Register p x m kind (Waits key e) ∷ past) o d = not (same p o && same_dir x d && names_mark (mark_of s c past p x) m) && ready_bits s c past o d
+ready_bits s c (Register p x m kind (Waits key e) ∷ past) o d =
+    not (same p o && same_dir x d && names_mark (mark_of s c past p x) m) && ready_bits s c past o d
 ready_bits s c (_ ∷ past) o d = ready_bits s c past o d
 
 -- ---- registrations
@@ -120,7 +126,8 @@ keys_shut xs = map (λ (x : ShutKey). x.key) xs
 -- the registrations that wait, in the order in which they were made, which is that of their keys
 abbrev pub waiting : List Entry → List Registered
 waiting [] = []
-waiting (Register o d m kind (Waits key e) ∷ past) = waiting past ++ record { key = key; opening = o; dir = d; kind = kind } ∷ []
+waiting (Register o d m kind (Waits key e) ∷ past) =
+    waiting past ++ record { key = key; opening = o; dir = d; kind = kind } ∷ []
 waiting (Withdraw key (Back kind) ∷ past) = without (key ∷ []) (waiting past)
 waiting (Dispatch x (Ran ran e) ∷ past) = without (keys_run ran) (waiting past)
 waiting (Close o (Shut xs) ∷ past) = without (keys_shut xs) (waiting past)
@@ -132,7 +139,9 @@ is_due s c past o w = same o w.opening && ready_bits s c past w.opening w.dir
 
 -- a key is due while it waits and its direction is ready
 abbrev pub IsDue : ℕ → ℕ → List Entry → Key → Type 0
-IsDue s c past k = list_any (λ (w : Registered). same_key w.key k && ready_bits s c past w.opening w.dir) (waiting past) ≡ true
+IsDue s c past k =
+    list_any (λ (w : Registered). same_key w.key k && ready_bits s c past w.opening w.dir) (waiting past)
+    ≡ true
 
 -- some key of this opening is due
 abbrev pub has_due : ℕ → ℕ → List Entry → Opening → Bool
@@ -154,17 +163,25 @@ pub record EventOut : Type 0 where
 abbrev pub is_of : Opening → EventOut → Bool
 is_of o x = same o x.event.opening
 
--- the event that the latest entry names, if it names one, comes to those that are out, with the directions of the keys of its opening that are due now
+-- the event that the latest entry names, if it names one, comes to those that are out, with the directions of
+-- the keys of its opening that are due now
 abbrev pub put_out : ℕ → ℕ → List Entry → Option EventName → List EventOut → List EventOut
 put_out s c past None outs = outs
-put_out s c past (Some e) outs = outs ++ record { event = e; read = due_in s c past e.opening Read; write = due_in s c past e.opening Write } ∷ []
+put_out s c past (Some e) outs =
+    outs
+    ++ record { event = e; read = due_in s c past e.opening Read; write = due_in s c past e.opening Write }
+    ∷ []
 
 -- the events that are out: each from the reply that names it until it is dispatched or its opening closes
 abbrev pub events_out : ℕ → ℕ → List Entry → List EventOut
 events_out s c [] = []
-events_out s c (Report o ds (Noted e) ∷ past) = put_out s c (Report o ds (Noted e) ∷ past) e (events_out s c past)
-events_out s c (Register o d m kind (Waits key e) ∷ past) = put_out s c (Register o d m kind (Waits key e) ∷ past) e (events_out s c past)
-events_out s c (Dispatch x (Ran ran e) ∷ past) = put_out s c (Dispatch x (Ran ran e) ∷ past) e (filter (λ (y : EventOut). not (same_event x y.event)) (events_out s c past))
+events_out s c (Report o ds (Noted e) ∷ past) =
+    put_out s c (Report o ds (Noted e) ∷ past) e (events_out s c past)
+events_out s c (Register o d m kind (Waits key e) ∷ past) =
+    put_out s c (Register o d m kind (Waits key e) ∷ past) e (events_out s c past)
+events_out s c (Dispatch x (Ran ran e) ∷ past) =
+    put_out s c (Dispatch x (Ran ran e) ∷ past) e
+    (filter (λ (y : EventOut). not (same_event x y.event)) (events_out s c past))
 events_out s c (Close o (Shut xs) ∷ past) = filter (λ (y : EventOut). not (is_of o y)) (events_out s c past)
 events_out s c (_ ∷ past) = events_out s c past
 
@@ -193,7 +210,8 @@ flag_run ran f = record f { standing = standing_run f.key ran f.standing }
 
 -- what a Shut list makes of a flag: one that stands there was shut
 abbrev pub flag_shut : List ShutKey → Unasked → Unasked
-flag_shut xs f = record f { standing = if list_any (λ k. same_key k f.key) (keys_shut xs) then WasShut else f.standing }
+flag_shut xs f =
+    record f { standing = if list_any (λ k. same_key k f.key) (keys_shut xs) then WasShut else f.standing }
 
 -- the flags with other keys
 abbrev pub not_asked : Key → List Unasked → List Unasked
@@ -209,7 +227,8 @@ abbrev pub flag_back : LoadKind → Key → List Unasked → List Unasked
 flag_back (Job tag) k fs = fs
 flag_back Flag k fs = not_asked k fs
 
--- the flags that are unasked: each from its registration until an answer has told that it ran or was shut, or it was given back
+-- the flags that are unasked: each from its registration until an answer has told that it ran or
+-- was shut, or it was given back
 abbrev pub unasked : List Entry → List Unasked
 unasked [] = []
 unasked (Register o d m kind (Waits key e) ∷ past) = flag_made kind key o (unasked past)

@@ -10,3 +10,5 @@ pub mod Consistency
 pub mod Refusals
 pub mod Worked
 pub mod World
+pub mod ListLaws
+pub mod Laws

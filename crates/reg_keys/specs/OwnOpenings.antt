@@ -22,7 +22,8 @@ abbrev pub IsNamedFor : Opening → Option EventName → Type 0
 IsNamedFor o None = Unit {0}
 IsNamedFor o (Some e) = e.opening ≡ o
 
--- what a reply says of what it names: an opening that was made or found is of the descriptor that was asked for, an event is of the opening that the call is about, and a key is of the stripe
+-- what a reply says of what it names: an opening that was made or found is of the descriptor that was asked
+-- for, an event is of the opening that the call is about, and a key is of the stripe
 abbrev pub NamesItsOwn : ℕ → Entry → Type 0
 NamesItsOwn s (Open fd (Taken o)) = IsOpeningOf s fd o
 NamesItsOwn s (Open fd (Opened o)) = IsOpeningOf s fd o

@@ -1,4 +1,5 @@
--- To be believed: that in every legal history a registration runs at most once, and has one event out while it is due.
+-- To be believed: that in every legal history a registration runs at most once, and has
+-- one event out while it is due.
 use Rattle.std.specs.Prelude.{◌≡◌, ℕ, ◌≤◌, List, [], ◌∷◌, ◌++◌, true, false, Bool, Option}
 use Rattle.std.specs.List.{list_any}
 use Rattle.reg_keys.specs.declared.opening.Opening.{Opening}
@@ -11,7 +12,8 @@ use Rattle.reg_keys.specs.declared.entry.WithdrawOutcome.TheVariants.{Back}
 use Rattle.reg_keys.specs.declared.entry.DispatchOutcome.TheVariants.{Ran}
 use Rattle.reg_keys.specs.declared.entry.CloseOutcome.TheVariants.{Shut}
 use Rattle.reg_keys.specs.Tests.{same, same_key, how_many, total, IsIn}
-use Rattle.reg_keys.specs.Histories.{keys_run, keys_shut, Registered, waiting, ready_bits, IsDue, is_of, events_out}
+use Rattle.reg_keys.specs.Histories.{keys_run, keys_shut, Registered, waiting, ready_bits, IsDue, is_of}
+use Rattle.reg_keys.specs.Histories.{events_out}
 
 -- the sum of a weight over a history
 abbrev pub weight : (Entry → ℕ) → List Entry → ℕ
@@ -40,11 +42,13 @@ shuts o _ = false
 
 -- the history accepted this registration
 abbrev pub WasRegistered : Registered → List Entry → Type 0
-WasRegistered w past = (m : Option ℕ) × (e : Option EventName) × IsIn (Register w.opening w.dir m w.kind (Waits w.key e)) past
+WasRegistered w past =
+    (m : Option ℕ) × (e : Option EventName) × IsIn (Register w.opening w.dir m w.kind (Waits w.key e)) past
 
 -- the key was due after the history or after one that it goes on from
 abbrev pub WasDue : ℕ → ℕ → Key → List Entry → Type 0
-WasDue s c k past = (later : List Entry) × (earlier : List Entry) × (past ≡ later ++ earlier) × IsDue s c earlier k
+WasDue s c k past =
+    (later : List Entry) × (earlier : List Entry) × (past ≡ later ++ earlier) × IsDue s c earlier k
 
 -- a dispatch and a close are of the one opening that they name
 abbrev pub IsOfOpening : Opening → Entry → Type 0
@@ -68,9 +72,11 @@ pub record IsOwnPlace (s c : ℕ) (k : Key) (e : Entry) (past : List Entry) : Ty
 -- a registration runs, is given back or is shut at most once, and only under its own opening
 pub record RunsOnce (s c : ℕ) (past : List Entry) : Type 0 where
   pub once : (k : Key) → weight (times_ended k) past ≤ 1
-  pub own : (k : Key) (later : List Entry) (e : Entry) (earlier : List Entry) → past ≡ later ++ e ∷ earlier → 1 ≤ times_ended k e → IsOwnPlace s c k e earlier
+  pub own : (k : Key) (later : List Entry) (e : Entry) (earlier : List Entry) → past ≡ later ++ e ∷ earlier
+      → 1 ≤ times_ended k e → IsOwnPlace s c k e earlier
 
 -- each opening has at most one event out, and exactly one where a registration of it is due
 pub record HasOneEventEach (s c : ℕ) (past : List Entry) : Type 0 where
   pub most : (o : Opening) → how_many (is_of o) (events_out s c past) ≤ 1
-  pub one : (w : Registered) → IsIn w (waiting past) → ready_bits s c past w.opening w.dir ≡ true → how_many (is_of w.opening) (events_out s c past) ≡ 1
+  pub one : (w : Registered) → IsIn w (waiting past) → ready_bits s c past w.opening w.dir ≡ true
+      → how_many (is_of w.opening) (events_out s c past) ≡ 1

@@ -10,7 +10,8 @@ use Rattle.reg_keys.specs.declared.entry.AskOutcome.TheVariants as Asks
 use Rattle.reg_keys.specs.declared.entry.DispatchOutcome.TheVariants as Dispatches
 use Rattle.reg_keys.specs.declared.entry.CloseOutcome.TheVariants as Closes
 use Rattle.reg_keys.specs.declared.entry.Entry.{Entry}
-use Rattle.reg_keys.specs.declared.entry.Entry.TheVariants.{Open, Report, Register, Withdraw, Ask, Dispatch, Close}
+use Rattle.reg_keys.specs.declared.entry.Entry.TheVariants.{Open, Report, Register, Withdraw, Ask, Dispatch}
+use Rattle.reg_keys.specs.declared.entry.Entry.TheVariants.{Close}
 use Rattle.reg_keys.specs.Histories.{count_after, owner_of, mark_of, ready_bits, waiting, events_out, unasked}
 
 -- the call was refused, or told nothing yet

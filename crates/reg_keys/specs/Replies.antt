@@ -1,5 +1,7 @@
--- To be believed: the one reply that each call must have after a past, and the histories in which each call has it.
-use Rattle.std.specs.Prelude.{◌≡◌, ℕ, ◌+◌, ◌-◌, ◌^◌, ◌&&◌, ◌||◌, not, nat_lt, nat_le, List, [], ◌∷◌, map, filter, length, true, false, Bool, Option, Some, None, if◌then◌else◌}
+-- To be believed: the one reply that each call must have after a past, and the histories
+-- in which each call has it.
+use Rattle.std.specs.Prelude.{◌≡◌, ℕ, ◌+◌, ◌-◌, ◌^◌, ◌&&◌, ◌||◌, not, nat_lt, nat_le, List, [], ◌∷◌, map}
+use Rattle.std.specs.Prelude.{filter, length, true, false, Bool, Option, Some, None, if◌then◌else◌}
 use Rattle.std.specs.List.{list_any}
 use Rattle.reg_keys.specs.declared.opening.Opening.{Opening}
 use Rattle.reg_keys.specs.declared.event.EventName.{EventName}
@@ -27,9 +29,12 @@ use Rattle.reg_keys.specs.declared.entry.DispatchOutcome.TheVariants as Dispatch
 use Rattle.reg_keys.specs.declared.entry.CloseOutcome.{CloseOutcome}
 use Rattle.reg_keys.specs.declared.entry.CloseOutcome.TheVariants as Closes
 use Rattle.reg_keys.specs.declared.entry.Entry.{Entry}
-use Rattle.reg_keys.specs.declared.entry.Entry.TheVariants.{Open, Report, Register, Withdraw, Ask, Dispatch, Close}
+use Rattle.reg_keys.specs.declared.entry.Entry.TheVariants.{Open, Report, Register, Withdraw, Ask, Dispatch}
+use Rattle.reg_keys.specs.declared.entry.Entry.TheVariants.{Close}
 use Rattle.reg_keys.specs.Tests.{same, same_key, same_event, how_many}
-use Rattle.reg_keys.specs.Histories.{count_after, next_number, owner_of, is_live, marks_of, Registered, waiting, has_due, EventOut, is_of, events_out, Standing, StillWaits, HasRun, WasShut, Unasked, unasked, is_fired}
+use Rattle.reg_keys.specs.Histories.{count_after, next_number, owner_of, is_live, marks_of, Registered}
+use Rattle.reg_keys.specs.Histories.{waiting, has_due, EventOut, is_of, events_out, Standing, StillWaits}
+use Rattle.reg_keys.specs.Histories.{HasRun, WasShut, Unasked, unasked, is_fired}
 
 -- the numbers of a stripe are at their end
 abbrev pub is_spent : ℕ → List Entry → Bool
@@ -39,9 +44,12 @@ is_spent c past = nat_le (2 ^ 50 - 1) (count_after c past)
 abbrev pub has_out : ℕ → ℕ → List Entry → Opening → Bool
 has_out s c past o = list_any (is_of o) (events_out s c past)
 
--- the event that a call names for an opening: a new one exactly where, after the call, a key of the opening is due and no event of it is out. The call is the latest entry, and names none there yet.
+-- the event that a call names for an opening: a new one exactly where, after the call, a key of the opening
+-- is due and no event of it is out. The call is the latest entry, and names none there yet.
 abbrev pub event_named : ℕ → ℕ → List Entry → Opening → Option EventName
-event_named s c past o = if has_due s c past o && not (has_out s c past o) then Some (record { number = next_number s c past; opening = o }) else None
+event_named s c past o =
+    if has_due s c past o && not (has_out s c past o)
+    then Some (record { number = next_number s c past; opening = o }) else None
 
 -- ---- opening
 
@@ -52,7 +60,9 @@ opened_unless None reply = reply
 
 -- what `Open` answers
 abbrev pub open_reply : ℕ → ℕ → List Entry → ℕ → OpenOutcome
-open_reply s c past fd = opened_unless (owner_of past fd) (if is_spent c past then Opens.Spent else Opens.Opened (record { number = next_number s c past; fd = fd }))
+open_reply s c past fd =
+    opened_unless (owner_of past fd) (if is_spent c past then Opens.Spent
+    else Opens.Opened (record { number = next_number s c past; fd = fd }))
 
 -- ---- reporting
 
@@ -67,7 +77,9 @@ report_reply s c past o ds =
 
 -- the places of an opening: its registrations that wait, and its flags that fired and are unasked
 abbrev pub places_taken : List Entry → Opening → ℕ
-places_taken past o = how_many (λ (w : Registered). same o w.opening) (waiting past) + how_many (λ (f : Unasked). same o f.opening && is_fired f.standing) (unasked past)
+places_taken past o =
+    how_many (λ (w : Registered). same o w.opening) (waiting past)
+    + how_many (λ (f : Unasked). same o f.opening && is_fired f.standing) (unasked past)
 
 -- the load is a flag
 abbrev pub is_flag : LoadKind → Bool
@@ -76,7 +88,8 @@ is_flag Flag = true
 
 -- no place is left for this load
 abbrev pub is_crowded : List Entry → Opening → LoadKind → Bool
-is_crowded past o kind = nat_le 4 (places_taken past o) || (is_flag kind && nat_le 512 (length (unasked past)))
+is_crowded past o kind =
+    nat_le 4 (places_taken past o) || (is_flag kind && nat_le 512 (length (unasked past)))
 
 -- what `Register` answers
 abbrev pub register_reply : ℕ → ℕ → List Entry → Opening → Dir → Option ℕ → LoadKind → RegisterOutcome
@@ -124,7 +137,8 @@ dir_out x Write = x.write
 
 -- the event is out with this direction
 abbrev pub event_has : ℕ → ℕ → List Entry → EventName → Dir → Bool
-event_has s c past e d = list_any (λ (x : EventOut). same_event e x.event && dir_out x d) (events_out s c past)
+event_has s c past e d =
+    list_any (λ (x : EventOut). same_event e x.event && dir_out x d) (events_out s c past)
 
 -- an event runs the waiting keys of its opening that are smaller than its number and whose direction it has
 abbrev pub fires : ℕ → ℕ → List Entry → EventName → Registered → Bool
@@ -139,7 +153,8 @@ abbrev pub dispatch_reply : ℕ → ℕ → List Entry → EventName → Dispatc
 dispatch_reply s c past e =
     if not (is_live past e.opening) then Dispatches.Stale
     else (if is_spent c past then Dispatches.Spent
-    else (let ran : List FiredKey = map (fired_as (marks_of s c past e.opening)) (filter (fires s c past e) (waiting past)) in
+    else (let ran : List FiredKey =
+    map (fired_as (marks_of s c past e.opening)) (filter (fires s c past e) (waiting past)) in
     Dispatches.Ran ran (event_named s c (Dispatch e (Dispatches.Ran ran None) ∷ past) e.opening)))
 
 -- ---- closing
@@ -150,7 +165,9 @@ shut_as w = record { key = w.key; kind = w.kind }
 
 -- what `Close` answers
 abbrev pub close_reply : List Entry → Opening → CloseOutcome
-close_reply past o = if not (is_live past o) then Closes.NotOpen else Closes.Shut (map shut_as (filter (λ (w : Registered). same o w.opening) (waiting past)))
+close_reply past o =
+    if not (is_live past o) then Closes.NotOpen
+    else Closes.Shut (map shut_as (filter (λ (w : Registered). same o w.opening) (waiting past)))
 
 -- ---- whole histories
 

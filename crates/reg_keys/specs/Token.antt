@@ -2,7 +2,7 @@
 use Rattle.std.specs.Prelude.{ℕ, ◌+◌, ◌*◌, ◌/◌, ◌%◌}
 use Rattle.reg_keys.specs.declared.opening.Opening.{Opening}
 
--- the number, and behind it the place of the descriptor among those of its stripe
+-- the number, and after it the place of the descriptor among those of its stripe
 abbrev pub token_of : Opening → ℕ
 token_of o = o.number * 128 + o.fd / 32
 

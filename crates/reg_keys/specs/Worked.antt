@@ -18,7 +18,8 @@ use Rattle.reg_keys.specs.declared.entry.AskOutcome.TheVariants as Asks
 use Rattle.reg_keys.specs.declared.entry.DispatchOutcome.TheVariants as Dispatches
 use Rattle.reg_keys.specs.declared.entry.CloseOutcome.TheVariants as Closes
 use Rattle.reg_keys.specs.declared.entry.Entry.{Entry}
-use Rattle.reg_keys.specs.declared.entry.Entry.TheVariants.{Open, Report, Register, Withdraw, Ask, Dispatch, Close}
+use Rattle.reg_keys.specs.declared.entry.Entry.TheVariants.{Open, Report, Register, Withdraw, Ask, Dispatch}
+use Rattle.reg_keys.specs.declared.entry.Entry.TheVariants.{Close}
 
 -- the opening of descriptor 0 with this number
 abbrev pub o : ℕ → Opening
@@ -54,7 +55,8 @@ a_late_event_is_stale =
     ∷ Open 0 (Opens.Opened (o 160))
     ∷ Register (o 160) Read None B (Registers.Waits (k 192) (Some (event 224 160)))
     ∷ Dispatch (event 96 32) Dispatches.Stale
-    ∷ Dispatch (event 224 160) (Dispatches.Ran (record { key = k 192; dir = Read; marks = marks 160 160; kind = B } ∷ []) None)
+    ∷ Dispatch (event 224 160)
+    (Dispatches.Ran (record { key = k 192; dir = Read; marks = marks 160 160; kind = B } ∷ []) None)
     ∷ []
 
 -- a dispatch names an event for the direction that it didn't run
@@ -63,8 +65,11 @@ the_other_direction_is_named =
     Open 0 (Opens.Opened (o 32))
     ∷ Register (o 32) Read None A (Registers.Waits (k 64) (Some (event 96 32)))
     ∷ Register (o 32) Write None B (Registers.Waits (k 128) None)
-    ∷ Dispatch (event 96 32) (Dispatches.Ran (record { key = k 64; dir = Read; marks = marks 32 32; kind = A } ∷ []) (Some (event 160 32)))
-    ∷ Dispatch (event 160 32) (Dispatches.Ran (record { key = k 128; dir = Write; marks = marks 32 32; kind = B } ∷ []) None)
+    ∷ Dispatch (event 96 32)
+    (Dispatches.Ran (record { key = k 64; dir = Read; marks = marks 32 32; kind = A } ∷ [])
+    (Some (event 160 32)))
+    ∷ Dispatch (event 160 32)
+    (Dispatches.Ran (record { key = k 128; dir = Write; marks = marks 32 32; kind = B } ∷ []) None)
     ∷ []
 
 -- an event runs the directions that were due as it was named, and the next one the others
@@ -74,8 +79,11 @@ an_event_runs_its_directions =
     ∷ Register (o 32) Write (Some 32) A (Registers.Waits (k 64) None)
     ∷ Register (o 32) Read None B (Registers.Waits (k 96) (Some (event 128 32)))
     ∷ Report (o 32) Named.Write (Reports.Noted None)
-    ∷ Dispatch (event 128 32) (Dispatches.Ran (record { key = k 96; dir = Read; marks = marks 32 160; kind = B } ∷ []) (Some (event 192 32)))
-    ∷ Dispatch (event 192 32) (Dispatches.Ran (record { key = k 64; dir = Write; marks = marks 32 160; kind = A } ∷ []) None)
+    ∷ Dispatch (event 128 32)
+    (Dispatches.Ran (record { key = k 96; dir = Read; marks = marks 32 160; kind = B } ∷ [])
+    (Some (event 192 32)))
+    ∷ Dispatch (event 192 32)
+    (Dispatches.Ran (record { key = k 64; dir = Write; marks = marks 32 160; kind = A } ∷ []) None)
     ∷ []
 
 -- an event runs no key that is younger than itself
@@ -84,8 +92,11 @@ an_event_runs_older_keys =
     Open 0 (Opens.Opened (o 32))
     ∷ Register (o 32) Read None A (Registers.Waits (k 64) (Some (event 96 32)))
     ∷ Register (o 32) Read None B (Registers.Waits (k 128) None)
-    ∷ Dispatch (event 96 32) (Dispatches.Ran (record { key = k 64; dir = Read; marks = marks 32 32; kind = A } ∷ []) (Some (event 160 32)))
-    ∷ Dispatch (event 160 32) (Dispatches.Ran (record { key = k 128; dir = Read; marks = marks 32 32; kind = B } ∷ []) None)
+    ∷ Dispatch (event 96 32)
+    (Dispatches.Ran (record { key = k 64; dir = Read; marks = marks 32 32; kind = A } ∷ [])
+    (Some (event 160 32)))
+    ∷ Dispatch (event 160 32)
+    (Dispatches.Ran (record { key = k 128; dir = Read; marks = marks 32 32; kind = B } ∷ []) None)
     ∷ []
 
 -- an event that isn't out runs nothing, and leaves the one that is
@@ -94,7 +105,8 @@ a_forged_event_runs_nothing =
     Open 0 (Opens.Opened (o 32))
     ∷ Register (o 32) Read None A (Registers.Waits (k 64) (Some (event 96 32)))
     ∷ Dispatch (event 160 32) (Dispatches.Ran [] None)
-    ∷ Dispatch (event 96 32) (Dispatches.Ran (record { key = k 64; dir = Read; marks = marks 32 32; kind = A } ∷ []) None)
+    ∷ Dispatch (event 96 32)
+    (Dispatches.Ran (record { key = k 64; dir = Read; marks = marks 32 32; kind = A } ∷ []) None)
     ∷ Dispatch (event 96 32) (Dispatches.Ran [] None)
     ∷ []
 
@@ -106,7 +118,8 @@ a_forged_event_takes_none_out =
     ∷ Register (o 32) Read None A (Registers.Waits (k 96) (Some (event 128 32)))
     ∷ Dispatch (record { number = 128; opening = record { number = 64; fd = 32 } }) (Dispatches.Ran [] None)
     ∷ Report (o 32) Named.Read (Reports.Noted None)
-    ∷ Dispatch (event 128 32) (Dispatches.Ran (record { key = k 96; dir = Read; marks = marks 160 32; kind = A } ∷ []) None)
+    ∷ Dispatch (event 128 32)
+    (Dispatches.Ran (record { key = k 96; dir = Read; marks = marks 160 32; kind = A } ∷ []) None)
     ∷ []
 
 -- a registration that names an old mark finds the report that came since
@@ -132,7 +145,8 @@ a_flag_is_told_once =
     ∷ Register (o 32) Read (Some 32) Flag (Registers.Waits (k 64) None)
     ∷ Ask (k 64) Asks.Waiting
     ∷ Report (o 32) Named.Read (Reports.Noted (Some (event 128 32)))
-    ∷ Dispatch (event 128 32) (Dispatches.Ran (record { key = k 64; dir = Read; marks = marks 96 32; kind = Flag } ∷ []) None)
+    ∷ Dispatch (event 128 32)
+    (Dispatches.Ran (record { key = k 64; dir = Read; marks = marks 96 32; kind = Flag } ∷ []) None)
     ∷ Ask (k 64) (Asks.Ran Read (marks 96 32))
     ∷ Ask (k 64) Asks.Unknown
     ∷ []
@@ -152,7 +166,8 @@ abbrev pub a_fired_flag_keeps_its_place : List Entry
 a_fired_flag_keeps_its_place =
     Open 0 (Opens.Opened (o 32))
     ∷ Register (o 32) Read None Flag (Registers.Waits (k 64) (Some (event 96 32)))
-    ∷ Dispatch (event 96 32) (Dispatches.Ran (record { key = k 64; dir = Read; marks = marks 32 32; kind = Flag } ∷ []) None)
+    ∷ Dispatch (event 96 32)
+    (Dispatches.Ran (record { key = k 64; dir = Read; marks = marks 32 32; kind = Flag } ∷ []) None)
     ∷ Register (o 32) Write (Some 32) A (Registers.Waits (k 128) None)
     ∷ Register (o 32) Write (Some 32) A (Registers.Waits (k 160) None)
     ∷ Register (o 32) Write (Some 32) B (Registers.Waits (k 192) None)
@@ -190,7 +205,9 @@ refusals =
     ∷ Register (o 32) Read None Flag (Registers.Waits (k 160) None)
     ∷ Register (o 32) Read None A Registers.Crowded
     ∷ Open 0 (Opens.Taken (o 32))
-    ∷ Close (o 32) (Closes.Shut (record { key = k 64; kind = A } ∷ record { key = k 96; kind = B } ∷ record { key = k 128; kind = Flag } ∷ record { key = k 160; kind = Flag } ∷ []))
+    ∷ Close (o 32)
+    (Closes.Shut (record { key = k 64; kind = A } ∷ record { key = k 96; kind = B }
+    ∷ record { key = k 128; kind = Flag } ∷ record { key = k 160; kind = Flag } ∷ []))
     ∷ Close (o 32) Closes.NotOpen
     ∷ Report (o 32) Named.Both Reports.Stale
     ∷ Register (o 32) Read None A Registers.Shut
@@ -215,10 +232,12 @@ last n = record { number = n; fd = 4095 }
 abbrev pub the_last_descriptor : List Entry
 the_last_descriptor =
     Open 4095 (Opens.Opened (last 63))
-    ∷ Register (last 63) Read None A (Registers.Waits (k 95) (Some (record { number = 127; opening = last 63 })))
+    ∷ Register (last 63) Read None A
+    (Registers.Waits (k 95) (Some (record { number = 127; opening = last 63 })))
     ∷ Report (last 63) Named.Both (Reports.Noted None)
     ∷ Open 4095 (Opens.Taken (last 63))
-    ∷ Dispatch (record { number = 127; opening = last 63 }) (Dispatches.Ran (record { key = k 95; dir = Read; marks = marks 159 159; kind = A } ∷ []) None)
+    ∷ Dispatch (record { number = 127; opening = last 63 })
+    (Dispatches.Ran (record { key = k 95; dir = Read; marks = marks 159 159; kind = A } ∷ []) None)
     ∷ Close (last 63) (Closes.Shut [])
     ∷ Open 4095 (Opens.Opened (last 191))
     ∷ Report (last 63) Named.Read Reports.Stale

@@ -7,16 +7,21 @@
 //! and only after it was due, and a due registration has exactly one event out.
 //!
 //! What holds of every legal history is had by calling a law: a function that does nothing, whose
-//! contract is the law. Of the proofs `TestLemmas`, `Pasts`, `RightReplies`, `EndsOnce` and `Removal` are
-//! written to be cited by crates that compute with histories themselves; the others prove the laws.
+//! contract is the law. Lemmas for crates that compute with histories themselves stand in specs/, in
+//! `Laws` and `ListLaws`; the proofs prove the laws.
 #![tactic(auto)]
 
-mod entry;
+// Openings, registrations and events.
 mod event;
-mod laws;
 mod limits;
 mod opening;
 mod registration;
+
+// The entries of a history.
+mod entry;
+
+// Laws of legal histories, and worked histories.
+mod laws;
 mod worked;
 
 pub use entry::{

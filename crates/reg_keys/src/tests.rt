@@ -1,5 +1,6 @@
-use super::*;
-use std::test::*;
+//! An opening and its token, and what an event is made of.
+use crate::{Event, Opening};
+use std::test::Fail;
 
 #[test]
 fn an_opening_comes_back_from_its_token(rt: HostRuntime) -> Result<(), Fail> {

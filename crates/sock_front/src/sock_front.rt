@@ -1,10 +1,9 @@
-// What a server over sockets begins with.
+//! What a server over sockets begins with.
 ghost use Rattle.std.specs.Prelude.{◌≡◌, ◌≤◌, [], All, IfOk, None, length};
 ghost use Rattle.warp_books.specs.Books.{IsBookOf};
 ghost use Rattle.warp_books.specs.EndCounts.{book_told};
 
-use crate::held_files::{HeldClock, HeldFiles};
-use outside::{Count, Files, RootOut};
+use outside::{Count, Files, OsClock, OsFiles, RootOut};
 use socket_poller::{SockFault, SockListener, SockPoller};
 use std::alloc::Global;
 use std::net::Net;
@@ -22,8 +21,8 @@ struct Place {
     port: u16,
 }
 
-/// What a server over sockets begins with: it listens over TCP, and its dispatchers work with sockets, the system's files and
-/// the system's time, and with books that keep sums.
+/// What a server over sockets begins with: it listens over TCP, and its dispatchers work with sockets, the
+/// system's files and the system's time, and with books that keep sums.
 #[derive(Drop)]
 pub struct SockFront<R> {
     rt: Arc<R, Global>,
@@ -34,7 +33,7 @@ pub struct SockFront<R> {
 }
 
 /// What each dispatcher works with.
-type SockKit<R> = Kit<SockPoller<R>, HeldFiles<R>, HeldClock<R>, SumBook, FreeGate>;
+type SockKit<R> = Kit<SockPoller<R>, OsFiles<R>, OsClock<R>, SumBook, FreeGate>;
 
 impl<R> SockFront<R> {
     ghost use Rattle.std.specs.Prelude.{◌≡◌, None};
@@ -58,7 +57,8 @@ impl<R: Net + rt::Files + rt::Clock + Drop> SockFront<R>
 where
     R::File: FileExt,
 {
-    /// So many kits over the files below the root. Where the root is no folder any more, the machine refused.
+    /// This many kits over the files below the root. Where the root is no folder any
+    /// more, the machine refused.
     fn made(&self, root: &str, count: usize) -> Result<Vec<SockKit<R>>, SockFault>
         requires { (1 ≤ count) × (count ≤ 64) }
         ensures count { IfOk result (λ kits. length kits.items ≡ count) }
@@ -76,7 +76,7 @@ where
     fn kit(&self, poller: SockPoller<R>, root: &str) -> Result<SockKit<R>, SockFault>
         ensures { IfOk result (λ kit. IsBookOf [] (book_told kit.book)) }
     {
-        let mut files = HeldFiles::new(Arc::try_clone(&self.rt)?, self.alloc);
+        let mut files = OsFiles::new(self.alloc, Arc::try_clone(&self.rt)?);
         match files.root(root) {
             RootOut::Present => {}
             RootOut::NoMemory => return Err(SockFault::NoMemory),
@@ -85,7 +85,7 @@ where
         Ok(Kit {
             poller,
             files,
-            clock: HeldClock::new(Arc::try_clone(&self.rt)?),
+            clock: OsClock::new(Arc::try_clone(&self.rt)?),
             book: SumBook::new(),
             gate: FreeGate,
         })
@@ -98,9 +98,9 @@ where
 {
     type Poller = SockPoller<R>;
 
-    type Files = HeldFiles<R>;
+    type Files = OsFiles<R>;
 
-    type Clock = HeldClock<R>;
+    type Clock = OsClock<R>;
 
     type Gate = FreeGate;
 

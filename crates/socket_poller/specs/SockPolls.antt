@@ -21,8 +21,10 @@ lingering_of p = slab_len p.lingerers.places
 abbrev pub no_faults : PollerFaults
 no_faults = record { links = 0; polls = 0 }
 
--- a poll: whoever mustn't wait and was answered by the system last is told nothing, without the system; every other poll asks it, and its reports are those of the events that it gave
-pub record IsPoll {R : Type 0} (old : SockPoller R) (idle : Bool) (result : PollOut) (out : List Report) (new : SockPoller R) : Type 0 where
+-- a poll: whoever mustn't wait and was answered by the system last is told nothing, without the system; every
+-- other poll asks it, and its reports are those of the events that it gave
+pub record IsPoll {R : Type 0} (old : SockPoller R) (idle : Bool) (result : PollOut)
+    (out : List Report) (new : SockPoller R) : Type 0 where
   pub asks : new.asked ≡ (idle || not old.asked)
   pub rests : new.asked ≡ false → (result ≡ Polled) × (out ≡ [])
   pub tells : new.asked ≡ true → result ≡ Polled → out ≡ reports_of (items new.events)

@@ -20,7 +20,7 @@ impl Departed {
         })
     }
 
-    /// Puts a socket behind the others. Whoever lets a link go can't wait, so this tries for a while. Where
+    /// Puts a socket after the others. Whoever lets a link go can't wait, so this tries for a while. Where
     /// it doesn't come to it, or too many are there, the socket is closed.
     pub fn put(&self, stream: TcpStream) {
         for _ in 0..HAND_OVERS {

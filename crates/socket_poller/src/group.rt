@@ -76,7 +76,7 @@ impl Group {
     }
 }
 
-/// The place of the bit that is set and has so many set ones below it.
+/// The place of the bit that is set and has this many set ones below it.
 fn place_of_turn(bits: u64, below: u64) -> usize {
     let mut left = bits;
     for _ in 0..below {

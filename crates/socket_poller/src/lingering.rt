@@ -1,5 +1,5 @@
 //! Links that were let go and linger: their writing side is shut, what comes is taken and thrown away, and
-//! they are closed once the peer ends, or after a while, or after so many bytes.
+//! they are closed once the peer ends, or after a while, or after this many bytes.
 ghost use Rattle.std.specs.Prelude.{◌≡◌, ◌<◌, ◌≤◌};
 ghost use Rattle.slab.specs.Slab.{slab_len};
 
@@ -82,22 +82,29 @@ impl Lingerers {
         self.places.len()
     }
 
-    /// Lets a socket of the set linger from now on. Where all places are taken it is closed.
+    /// Lets a socket of the set linger from now on. Where its peer has ended by now it is closed, and the set
+    /// isn't told of it; the same where all places are taken.
     fn take_in(&mut self, registry: &Registry, stream: TcpStream, now: Instant) {
         let place = self.places.vacant_key();
         if self.places.len() >= LINGERING || place >= LINGERING {
             return;
         }
-        let mut stream = stream;
-        let watched = registry.reregister(&mut stream, token_at(place), Interest::READABLE);
-        if watched.is_err() {
-            return;
-        }
-        let _placed = self.places.insert(Lingering {
+        let mut lingering = Lingering {
             stream,
             since: now,
             left: LINGER_BYTES,
-        });
+        };
+        if let Drained::Over = lingering.drain(&mut self.room) {
+            return;
+        }
+        let watched = registry.reregister(
+            &mut lingering.stream,
+            token_at(place),
+            Interest::READABLE,
+        );
+        if watched.is_ok() {
+            let _placed = self.places.insert(lingering);
+        }
     }
 
     /// Something came for the link at a place.

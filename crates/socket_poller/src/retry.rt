@@ -1,4 +1,5 @@
-//! One step of a socket. A signal that came in between is no fault of the peer, so such a step is taken again.
+//! One step of a socket. A signal that came in between is no fault of the peer, so such
+//! a step is taken again.
 ghost use Rattle.std.specs.Prelude.{◌≢◌, IfErr};
 ghost use Rattle.std.specs.Io.{ReadsAtMost, WritesAtMost};
 ghost use Rattle.std.specs.IoError.{error_kind};

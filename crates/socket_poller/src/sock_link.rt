@@ -23,7 +23,8 @@ enum Talk {
 }
 
 /// A link over a socket. A link that is let go after it was written to, and whose peer may be sending still,
-/// shuts its writing side and lingers: what comes is taken for a while and thrown away, and then it is closed.
+/// shuts its writing side and lingers: what comes is taken for a while and thrown away,
+/// and then it is closed.
 /// Closed at once, with bytes unread, it would be reset, and the peer might lose what was written.
 pub struct SockLink {
     pub(crate) stream: TcpStream,

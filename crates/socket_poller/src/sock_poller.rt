@@ -44,7 +44,7 @@ impl<R: Drop> SockPoller<R> {
     ghost use Rattle.std.specs.Prelude.{All};
     ghost use Rattle.socket_poller.specs.SockPolls.{faults_of, lingering_of, no_faults};
 
-    /// So many pollers, one for each dispatcher. The clock tells how long links lingered.
+    /// This many pollers, one for each dispatcher. The clock tells how long links lingered.
     pub fn group<N: Net>(
         net: &N,
         clock: &Arc<R, Global>,
@@ -103,8 +103,8 @@ impl<R: Drop> SockPoller<R> {
     }
 }
 
-/// Puts the reports of the events into `out`. The ends of peers are noted before, and what came for links that
-/// linger is taken.
+/// Puts the reports of the events into `out`. The ends of peers are noted before, and what came
+/// for links that linger is taken.
 fn hear(events: &Events, set: &Set, ends: &PeerEnds, lingerers: &mut Lingerers, out: &mut Reports)
     requires empty { out.old ≡ [] }
     requires few { length (items events.now) ≤ REPORTS }

@@ -7,7 +7,7 @@ module _ {A : Type 0} (number : A → ℕ) where
   AllAbove n [] = Unit {0}
   AllAbove n (x ∷ xs) = (n < number x) × AllAbove n xs
 
-  -- each number is below all behind it
+  -- each number is below all after it
   abbrev pub Ascends : List A → Type 0
   Ascends [] = Unit {0}
   Ascends (x ∷ xs) = AllAbove (number x) xs × Ascends xs

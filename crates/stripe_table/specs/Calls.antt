@@ -1,4 +1,5 @@
--- To be believed: the entry that a call on a stripe and its reply make, which reply belongs to which call, and which calls a stripe takes.
+-- To be believed: the entry that a call on a stripe and its reply make, which reply belongs to which call,
+-- and which calls a stripe takes.
 use Rattle.std.specs.Prelude.{◌≡◌, ℕ, ◌<◌, ◌%◌, List, [], ◌∷◌, map, Option, Some, None}
 use Rattle.reg_keys.specs.declared.event.EventName.{EventName}
 use Rattle.reg_keys.specs.declared.registration.Key.{Key}
@@ -21,7 +22,8 @@ use Rattle.reg_keys.specs.declared.entry.DispatchOutcome.TheVariants as Dispatch
 use Rattle.reg_keys.specs.declared.entry.CloseOutcome.{CloseOutcome}
 use Rattle.reg_keys.specs.declared.entry.CloseOutcome.TheVariants as Closes
 use Rattle.reg_keys.specs.declared.entry.Entry.{Entry}
-use Rattle.reg_keys.specs.declared.entry.Entry.TheVariants.{Open, Report, Register, Withdraw, Ask, Dispatch, Close}
+use Rattle.reg_keys.specs.declared.entry.Entry.TheVariants.{Open, Report, Register, Withdraw, Ask, Dispatch}
+use Rattle.reg_keys.specs.declared.entry.Entry.TheVariants.{Close}
 use Rattle.stripe_table.specs.declared.load.Payload.{Payload}
 use Rattle.stripe_table.specs.declared.load.Payload.TheVariants.{Job, Flag}
 use Rattle.stripe_table.specs.declared.calls.Fired.{Fired}
@@ -119,7 +121,8 @@ module _ {T : Type 0} where
   HandsEventBack event (DispatchAnswer.Spent back) = back ≡ event
   HandsEventBack event _ = Unit {0}
 
--- the entry of a reply to another call, which never comes: the opening isn't on its own descriptor, so no legal history has it
+-- the entry of a reply to another call, which never comes: the opening isn't on its own
+-- descriptor, so no legal history has it
 abbrev pub no_entry : Entry
 no_entry = Open 0 (Opens.Opened (record { number = 0; fd = 1 }))
 

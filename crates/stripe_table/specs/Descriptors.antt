@@ -1,5 +1,6 @@
 -- Inner: what the calls do to what is kept of an open descriptor.
-use Rattle.std.specs.Prelude.{ℕ, ◌+◌, ◌&&◌, ◌==◌, not, nat_lt, true, false, Bool, Option, Some, None, List, [], ◌∷◌, ◌++◌, filter, if◌then◌else◌}
+use Rattle.std.specs.Prelude.{ℕ, ◌+◌, ◌&&◌, ◌==◌, not, nat_lt, true, false, Bool, Option, Some, None, List}
+use Rattle.std.specs.Prelude.{[], ◌∷◌, ◌++◌, filter, if◌then◌else◌}
 use Rattle.std.specs.List.{list_any}
 use Rattle.reg_keys.specs.Tests.{same_dir, has_dir, how_many}
 use Rattle.reg_keys.specs.Histories.{names_mark}
@@ -54,7 +55,8 @@ module _ {T : Type 0} where
 
   -- an opening with this number, just made
   abbrev pub just_opened : ℕ → OpenDescriptor T
-  just_opened n = record { number = n; read = ready_since n; write = ready_since n; waits = []; fired = 0; out = None }
+  just_opened n =
+      record { number = n; read = ready_since n; write = ready_since n; waits = []; fired = 0; out = None }
 
   -- some registration waits for a direction that is ready
   abbrev pub due_to_read : OpenDescriptor T → Bool
@@ -66,7 +68,10 @@ module _ {T : Type 0} where
 
   -- a report of this number names these directions
   abbrev pub noted : OpenDescriptor T → Dirs → ℕ → OpenDescriptor T
-  noted d ds n = record d { read = (if has_dir ds Read then ready_since n else d.read); write = (if has_dir ds Write then ready_since n else d.write) }
+  noted d ds n = record d {
+    read = (if has_dir ds Read then ready_since n else d.read);
+    write = (if has_dir ds Write then ready_since n else d.write);
+  }
 
   -- a registration for this direction names this mark
   abbrev pub tried : OpenDescriptor T → Dir → Option ℕ → OpenDescriptor T
@@ -75,7 +80,8 @@ module _ {T : Type 0} where
 
   -- one more registration waits
   abbrev pub registered : OpenDescriptor T → ℕ → Dir → Option ℕ → Payload T → OpenDescriptor T
-  registered d key dir m load = record (tried d dir m) { waits = d.waits ++ record { key = key; dir = dir; load = load } ∷ [] }
+  registered d key dir m load =
+      record (tried d dir m) { waits = d.waits ++ record { key = key; dir = dir; load = load } ∷ [] }
 
   -- the directions of the event that is to be named now, if one is
   abbrev pub dirs_to_name : OpenDescriptor T → Option Dirs
@@ -105,7 +111,11 @@ module _ {T : Type 0} where
 
   -- the event has run: its flags keep their places
   abbrev pub after_taking : OpenDescriptor T → OutSlot → OpenDescriptor T
-  after_taking d x = record d { out = None; waits = filter (λ r. not (is_for x r)) d.waits; fired = d.fired + how_many flag_waits (filter (is_for x) d.waits) }
+  after_taking d x = record d {
+    out = None;
+    waits = filter (λ r. not (is_for x r)) d.waits;
+    fired = d.fired + how_many flag_waits (filter (is_for x) d.waits);
+  }
 
   -- what is left after the event of this number, if this is the one that is out
   abbrev pub after_event : Option OutSlot → ℕ → OpenDescriptor T → OpenDescriptor T

@@ -1,5 +1,6 @@
 -- Inner: what is so after a past, taken together, and what the calls make of it.
-use Rattle.std.specs.Prelude.{ℕ, ◌++◌, not, if◌then◌else◌, ◌+◌, ◌*◌, ◌&&◌, ◌||◌, ◌==◌, List, [], ◌∷◌, filter, map, Bool, Option, Some, None}
+use Rattle.std.specs.Prelude.{ℕ, ◌++◌, not, if◌then◌else◌, ◌+◌, ◌*◌, ◌&&◌, ◌||◌, ◌==◌, List, [], ◌∷◌, filter}
+use Rattle.std.specs.Prelude.{map, Bool, Option, Some, None}
 use Rattle.std.specs.List.{list_any}
 use Rattle.reg_keys.specs.declared.opening.Opening.{Opening}
 use Rattle.reg_keys.specs.declared.registration.Dir.{Dir}
@@ -12,7 +13,10 @@ use Rattle.reg_keys.specs.declared.entry.LoadKind.{LoadKind}
 use Rattle.reg_keys.specs.declared.entry.FiredKey.{FiredKey}
 use Rattle.reg_keys.specs.declared.entry.ShutKey.{ShutKey}
 use Rattle.reg_keys.specs.Tests.{same, same_event, same_dir, has_dir}
-use Rattle.reg_keys.specs.Histories.{count_after, owner_of, mark_of, ready_bits, Registered, waiting, EventOut, is_of, events_out, is_it, names_mark, without, keys_run, keys_shut, flag_made, flag_back, flag_run, flag_shut, not_asked, Unasked, unasked, is_fired}
+use Rattle.reg_keys.specs.Histories.{count_after, owner_of, mark_of, ready_bits, Registered, waiting}
+use Rattle.reg_keys.specs.Histories.{EventOut, is_of, events_out, is_it, names_mark, without, keys_run}
+use Rattle.reg_keys.specs.Histories.{keys_shut, flag_made, flag_back, flag_run, flag_shut, not_asked, Unasked}
+use Rattle.reg_keys.specs.Histories.{unasked, is_fired}
 
 -- the count, the owner of each descriptor, the mark and the bit of each direction, what waits, the events
 -- that are out, and the flags that are unasked
@@ -27,7 +31,15 @@ pub record Facts : Type 0 where
 
 -- the facts after a past of stripe s that began at count c
 abbrev pub facts_of : ℕ → ℕ → List Entry → Facts
-facts_of s c past = record { count = count_after c past; owner = owner_of past; mark = mark_of s c past; bit = ready_bits s c past; waits = waiting past; outs = events_out s c past; flags = unasked past }
+facts_of s c past = record {
+  count = count_after c past;
+  owner = owner_of past;
+  mark = mark_of s c past;
+  bit = ready_bits s c past;
+  waits = waiting past;
+  outs = events_out s c past;
+  flags = unasked past;
+}
 
 -- the number that is drawn next
 abbrev pub next : ℕ → Facts → ℕ
@@ -77,26 +89,45 @@ has_out f o = list_any (is_of o) f.outs
 
 -- the event that is named for the opening now
 abbrev pub event_of : ℕ → Facts → Opening → Option EventName
-event_of s f o = if has_due f o && not (has_out f o) then Some (record { number = next s f; opening = o }) else None
+event_of s f o =
+    if has_due f o && not (has_out f o) then Some (record { number = next s f; opening = o }) else None
 
 -- what is so once the event is named
 abbrev pub with_event : Facts → Option EventName → Facts
 with_event f None = f
-with_event f (Some e) = record f { count = f.count + 1; outs = f.outs ++ record { event = e; read = due_in f e.opening Read; write = due_in f e.opening Write } ∷ [] }
+with_event f (Some e) = record f {
+  count = f.count + 1;
+  outs =
+      f.outs ++ record { event = e; read = due_in f e.opening Read; write = due_in f e.opening Write } ∷ [];
+}
 
 -- what is so once a report is noted, before an event is named
 abbrev pub noted : ℕ → Facts → Opening → Dirs → Facts
-noted s f o ds = record f { count = f.count + 1; mark = λ p d. if same o p && has_dir ds d then next s f else f.mark p d; bit = λ p d. (same o p && has_dir ds d) || f.bit p d }
+noted s f o ds = record f {
+  count = f.count + 1;
+  mark = λ p d. if same o p && has_dir ds d then next s f else f.mark p d;
+  bit = λ p d. (same o p && has_dir ds d) || f.bit p d;
+}
 
 -- ---- what the other calls do, before an event is named
 
 -- an opening is made on a descriptor
 abbrev pub made : Facts → ℕ → Opening → Facts
-made f fd o = record f { count = f.count + 1; owner = λ at. if fd == at then Some o else f.owner at; mark = λ p d. if same o p then p.number else f.mark p d; bit = λ p d. same o p || f.bit p d }
+made f fd o = record f {
+  count = f.count + 1;
+  owner = λ at. if fd == at then Some o else f.owner at;
+  mark = λ p d. if same o p then p.number else f.mark p d;
+  bit = λ p d. same o p || f.bit p d;
+}
 
 -- a registration waits
 abbrev pub registered : Facts → Opening → Dir → Option ℕ → LoadKind → Key → Facts
-registered f o d m kind key = record f { count = f.count + 1; bit = λ p e. not (same o p && same_dir d e && names_mark (f.mark o d) m) && f.bit p e; waits = f.waits ++ record { key = key; opening = o; dir = d; kind = kind } ∷ []; flags = flag_made kind key o f.flags }
+registered f o d m kind key = record f {
+  count = f.count + 1;
+  bit = λ p e. not (same o p && same_dir d e && names_mark (f.mark o d) m) && f.bit p e;
+  waits = f.waits ++ record { key = key; opening = o; dir = d; kind = kind } ∷ [];
+  flags = flag_made kind key o f.flags;
+}
 
 -- a registration is given back
 abbrev pub withdrawn : Facts → Key → LoadKind → Facts
@@ -108,8 +139,17 @@ told f key = record f { flags = not_asked key f.flags }
 
 -- an event runs these keys
 abbrev pub run : Facts → EventName → List FiredKey → Facts
-run f e ran = record f { waits = without (keys_run ran) f.waits; outs = filter (λ y. not (same_event e y.event)) f.outs; flags = map (flag_run ran) f.flags }
+run f e ran = record f {
+  waits = without (keys_run ran) f.waits;
+  outs = filter (λ y. not (same_event e y.event)) f.outs;
+  flags = map (flag_run ran) f.flags;
+}
 
 -- an opening is closed with these keys
 abbrev pub shut : Facts → Opening → List ShutKey → Facts
-shut f o xs = record f { owner = λ fd. if is_it o (f.owner fd) then None else f.owner fd; waits = without (keys_shut xs) f.waits; outs = filter (λ y. not (is_of o y)) f.outs; flags = map (flag_shut xs) f.flags }
+shut f o xs = record f {
+  owner = λ fd. if is_it o (f.owner fd) then None else f.owner fd;
+  waits = without (keys_shut xs) f.waits;
+  outs = filter (λ y. not (is_of o y)) f.outs;
+  flags = map (flag_shut xs) f.flags;
+}

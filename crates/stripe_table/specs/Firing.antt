@@ -33,6 +33,7 @@ module _ {T : Type 0} where
   told_of x r fs = if flag_waits r then map (settled r.key x) fs else fs
 
   -- the flags, after those among the registrations came out so
-  abbrev pub settle_all : (Registration T → FlagState) → List (Registration T) → List UnaskedFlag → List UnaskedFlag
+  abbrev pub settle_all : (Registration T → FlagState) → List (Registration T)
+      → List UnaskedFlag → List UnaskedFlag
   settle_all state [] fs = fs
   settle_all state (r ∷ rs) fs = settle_all state rs (told_of (state r) r fs)

@@ -2,7 +2,7 @@
 use Rattle.std.specs.Prelude.{List, [], ◌∷◌, Option, Some, None}
 
 module _ {X : Type 0} where
-  -- a place and what is behind it
+  -- a place and what is after it
   abbrev pub kept : Option X → List X → List X
   kept None xs = xs
   kept (Some x) xs = x ∷ xs
@@ -11,7 +11,7 @@ module _ {X : Type 0} where
   abbrev pub listed : Option X → Option X → Option X → Option X → List X
   listed a b c d = kept a (kept b (kept c (kept d [])))
 
-  -- the second place is filled only behind the first
+  -- the second place is filled only after the first
   abbrev pub After : Option X → Option X → Type 0
   After None None = Unit {0}
   After None (Some y) = ⊥

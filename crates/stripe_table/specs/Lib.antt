@@ -7,4 +7,4 @@ pub mod Flags
 pub mod Fours
 pub mod Index
 pub mod Loads
-pub mod Stands
+pub mod Represents

@@ -31,7 +31,7 @@ pub enum StripeCall<T> {
     Withdraw(Key),
     /// Asks for the outcome of a flag.
     Ask(Key),
-    /// Runs what an event is for.
+    /// Takes the registrations that an event fires.
     Dispatch(Event),
     /// Closes an opening.
     Close(Opening),

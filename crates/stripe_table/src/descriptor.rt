@@ -12,7 +12,7 @@ use reg_keys::{Dir, Dirs, Marks, PLACES};
 
 /// One direction of an opening.
 #[derive(Clone, Copy, Drop)]
-pub struct Side {
+pub(crate) struct Side {
     /// Whether the direction is taken to be ready.
     pub ready: bool,
     /// The number of the last report of this direction, or else of the opening.
@@ -36,7 +36,7 @@ impl Side {
 
 /// A registration that waits.
 #[derive(Drop)]
-pub struct Registration<T> {
+pub(crate) struct Registration<T> {
     pub key: u64,
     pub dir: Dir,
     pub load: Payload<T>,
@@ -44,15 +44,15 @@ pub struct Registration<T> {
 
 /// The event of an opening that is out, with the directions that were due when it was named.
 #[derive(Clone, Copy, Drop)]
-pub struct OutSlot {
+pub(crate) struct OutSlot {
     pub number: u64,
     pub dirs: Dirs,
 }
 
-/// What is kept of an open descriptor. What a report reads and writes comes first, so that it touches one or two
-/// lines of the processor's cache, however big a job is.
+/// What is kept of an open descriptor. What a report reads and writes comes first, so that it touches one or
+/// two lines of the processor's cache, however big a job is.
 #[derive(Drop)]
-pub struct OpenDescriptor<T> {
+pub(crate) struct OpenDescriptor<T> {
     /// The number of its opening.
     pub number: u64,
     pub read: Side,
@@ -84,7 +84,7 @@ impl<T: Drop> OpenDescriptor<T> {
     ghost use Rattle.stripe_table.specs.Descriptors.{just_opened, goes, due_to_read, due_to_write, dirs_of, noted, registered, dirs_to_name, named, waits_as, marks_now, taken, after_run};
 
     /// A descriptor that was just opened is taken to be ready in both directions.
-    pub fn new(number: u64) -> OpenDescriptor<T>
+    pub(crate) fn new(number: u64) -> OpenDescriptor<T>
         ensures { result ≡ just_opened number }
     {
         let side = Side {
@@ -130,7 +130,7 @@ impl<T: Drop> OpenDescriptor<T> {
     }
 
     /// A report of this number: the directions are ready, and have it as their mark.
-    pub fn note(&mut self, dirs: Dirs, number: u64)
+    pub(crate) fn note(&mut self, dirs: Dirs, number: u64)
         ensures { self.new ≡ noted self.old dirs number }
     {
         let side = Side {
@@ -149,7 +149,7 @@ impl<T: Drop> OpenDescriptor<T> {
 
     /// Puts a registration into a free place. Where it names the mark that its direction has now,
     /// the direction isn't taken to be ready until the next report.
-    pub fn register(&mut self, key: u64, dir: Dir, mark: Option<u64>, load: Payload<T>)
+    pub(crate) fn register(&mut self, key: u64, dir: Dir, mark: Option<u64>, load: Payload<T>)
         requires { length self.old.waits < 4 }
         ensures { self.new ≡ registered self.old key dir mark load }
     {
@@ -161,7 +161,7 @@ impl<T: Drop> OpenDescriptor<T> {
     }
 
     /// Names an event where a registration is due and no event is out.
-    pub fn name(&mut self, number: u64) -> bool
+    pub(crate) fn name(&mut self, number: u64) -> bool
         ensures named { result ≡ is_some (dirs_to_name self.old) }
         ensures kept { self.new ≡ named self.old number }
     {
@@ -191,9 +191,10 @@ impl<T: Drop> OpenDescriptor<T> {
     }
 
     /// Takes the registrations that wait for one of the event's directions and are older than it.
-    pub fn take_due(&mut self, event: &OutSlot) -> Four<Registration<T>>
+    pub(crate) fn take_due(&mut self, event: &OutSlot) -> Four<Registration<T>>
         ensures taken { result ≡ filter (is_for event.now) self.old.waits }
-        ensures left { self.new ≡ record self.old { waits = filter (λ r. not (is_for event.now r)) self.old.waits } }
+        ensures left { self.new
+            ≡ record self.old { waits = filter (λ r. not (is_for event.now r)) self.old.waits } }
         ensures most { length self.old.waits ≤ 4 }
     {
         if self.is_all_due(event) {
@@ -212,7 +213,7 @@ impl<T: Drop> OpenDescriptor<T> {
     }
 
     /// Runs the event of a number, if it is the one that is out. The descriptor is at this place.
-    pub fn run(
+    pub(crate) fn run(
         &mut self,
         number: u64,
         place: usize,
@@ -223,7 +224,8 @@ impl<T: Drop> OpenDescriptor<T> {
         requires place { place < 128 }
         ensures list { result ≡ map (fired_as (marks_now self.old)) (taken self.old number) }
         ensures left { self.new ≡ after_run self.old number }
-        ensures flags { Ascends key_of flags.old → flags.new ≡ settle_all (run_state (marks_now self.old)) (taken self.old number) flags.old }
+        ensures flags { Ascends key_of flags.old
+            → flags.new ≡ settle_all (run_state (marks_now self.old)) (taken self.old number) flags.old }
         ensures others { KeepsOthers place index.old index.new }
         ensures here { ListsAll index.old place self.old.waits → ListsAll index.new place self.new.waits }
     {
@@ -245,7 +247,7 @@ impl<T: Drop> OpenDescriptor<T> {
     }
 
     /// Whether a key waits here.
-    pub fn has_key(&self, key: u64) -> bool
+    pub(crate) fn has_key(&self, key: u64) -> bool
         ensures { result ≡ list_any (waits_as key) self.now.waits }
     {
         for place in 0..self.waits.len() {
@@ -260,9 +262,10 @@ impl<T: Drop> OpenDescriptor<T> {
     }
 
     /// Takes the registration with a key out of its place.
-    pub fn take_key(&mut self, key: u64) -> Four<Registration<T>>
+    pub(crate) fn take_key(&mut self, key: u64) -> Four<Registration<T>>
         ensures taken { result ≡ filter (waits_as key) self.old.waits }
-        ensures left { self.new ≡ record self.old { waits = filter (λ r. not (waits_as key r)) self.old.waits } }
+        ensures left { self.new
+            ≡ record self.old { waits = filter (λ r. not (waits_as key r)) self.old.waits } }
     {
         let mut waits = self.waits.take();
         let mut taken = Four::new();
@@ -277,7 +280,7 @@ impl<T: Drop> OpenDescriptor<T> {
     }
 
     /// Whether the four places are taken.
-    pub fn is_full(&self) -> bool
+    pub(crate) fn is_full(&self) -> bool
         ensures full { result ≡ nat_le 4 (length self.now.waits + self.now.fired) }
         ensures most { length self.now.waits ≤ 4 }
     {

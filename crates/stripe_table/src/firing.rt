@@ -15,7 +15,7 @@ use crate::load::Payload;
 use reg_keys::{Key, Marks};
 
 /// Runs what an event has taken, with the marks of its opening.
-pub fn run_all<T: Drop>(
+pub(crate) fn run_all<T: Drop>(
     taken: Four<Registration<T>>,
     marks: Marks,
     flags: &mut Flags,
@@ -45,7 +45,7 @@ pub fn run_all<T: Drop>(
 }
 
 /// Gives back what waited at a close.
-pub fn shut_all<T: Drop>(waits: Four<Registration<T>>, flags: &mut Flags) -> ShutList<T>
+pub(crate) fn shut_all<T: Drop>(waits: Four<Registration<T>>, flags: &mut Flags) -> ShutList<T>
     requires { length waits ≤ 4 }
     ensures list { result ≡ map shut_as waits }
     ensures flags { Ascends key_of flags.old → flags.new ≡ settle_all shut_state waits flags.old }
@@ -73,7 +73,7 @@ fn tell<T: Drop>(registration: &Registration<T>, state: FlagState, flags: &mut F
 }
 
 /// How many flags are among registrations.
-pub fn flags_among<T: Drop>(taken: &Four<Registration<T>>) -> usize
+pub(crate) fn flags_among<T: Drop>(taken: &Four<Registration<T>>) -> usize
     ensures { result ≡ how_many flag_waits taken.now }
 {
     let mut count: usize = 0;

@@ -11,7 +11,7 @@ use std::marker::Model;
 
 /// What a flag's owner is told.
 #[derive(Clone, Copy, Drop)]
-pub enum FlagState {
+pub(crate) enum FlagState {
     Waiting,
     Ran(Dir, Marks),
     Closed,
@@ -19,7 +19,7 @@ pub enum FlagState {
 
 /// A flag that hasn't been asked to its end.
 #[derive(Clone, Copy, Drop)]
-pub struct UnaskedFlag {
+pub(crate) struct UnaskedFlag {
     pub key: u64,
     pub opening: Opening,
     pub state: FlagState,
@@ -41,7 +41,7 @@ impl UnaskedFlag {
 
 /// The unasked flags, at most 512, for which room is taken at the making.
 #[derive(Drop)]
-pub struct Flags {
+pub(crate) struct Flags {
     items: Vec<UnaskedFlag>,
 }
 
@@ -62,7 +62,7 @@ impl Flags {
     ghost use Rattle.stripe_table.specs.Flags.{key_of, flag_has, settled, is_settled, begun, ended};
 
     /// No flag, with room for as many as a stripe keeps; an error is want of memory.
-    pub fn new(alloc: Global) -> Result<Flags, AllocError>
+    pub(crate) fn new(alloc: Global) -> Result<Flags, AllocError>
         ensures { IfOk result (λ f. f ≡ []) }
     {
         Ok(Flags {
@@ -71,14 +71,14 @@ impl Flags {
     }
 
     /// Whether no further flag is taken.
-    pub fn is_full(&self) -> bool
+    pub(crate) fn is_full(&self) -> bool
         ensures { result ≡ nat_le 512 (length self.now) }
     {
         self.items.len() as u64 >= FLAGS
     }
 
     /// Adds a flag, for which there must be room.
-    pub fn push(&mut self, flag: UnaskedFlag)
+    pub(crate) fn push(&mut self, flag: UnaskedFlag)
         requires { length self.old < 512 }
         ensures { self.new ≡ self.old ++ flag ∷ [] }
     {
@@ -87,7 +87,7 @@ impl Flags {
     }
 
     /// Adds the flag of a registration, unless it brings a job. There must be room for a flag.
-    pub fn begin<T>(&mut self, load: &Payload<T>, key: u64, opening: Opening)
+    pub(crate) fn begin<T>(&mut self, load: &Payload<T>, key: u64, opening: Opening)
         requires { is_flag load.now ≡ true → length self.old < 512 }
         ensures { self.new ≡ begun (is_flag load.now) key opening self.old }
     {
@@ -101,7 +101,7 @@ impl Flags {
     }
 
     /// Forgets the flag of a registration that is taken back, unless it brought a job.
-    pub fn end<T>(&mut self, load: &Payload<T>, key: u64)
+    pub(crate) fn end<T>(&mut self, load: &Payload<T>, key: u64)
         ensures { Ascends key_of self.old → self.new ≡ ended (is_flag load.now) key self.old }
     {
         if load.is_flag() {
@@ -111,7 +111,8 @@ impl Flags {
 
     /// The place of a flag, found by halving, since the keys ascend.
     fn place_of(&self, key: u64) -> Option<usize>
-        ensures there { IfSome result (λ i. (f : UnaskedFlag) × (slice_get self.now i ≡ Some f) × (f.key ≡ key)) }
+        ensures there { IfSome result
+            (λ i. (f : UnaskedFlag) × (slice_get self.now i ≡ Some f) × (f.key ≡ key)) }
         ensures absent { IfNone result (Ascends key_of self.now → list_any (flag_has key) self.now ≡ false) }
     {
         let items = self.items.as_slice();
@@ -133,7 +134,7 @@ impl Flags {
     }
 
     /// Forgets a flag.
-    pub fn forget(&mut self, key: u64)
+    pub(crate) fn forget(&mut self, key: u64)
         ensures { Ascends key_of self.old → self.new ≡ filter (λ f. not (flag_has key f)) self.old }
     {
         if let Some(place) = self.place_of(key) {
@@ -142,7 +143,7 @@ impl Flags {
     }
 
     /// Says how a flag came out.
-    pub fn settle(&mut self, key: u64, state: FlagState)
+    pub(crate) fn settle(&mut self, key: u64, state: FlagState)
         ensures { Ascends key_of self.old → self.new ≡ map (settled key state) self.old }
     {
         if let Some(place) = self.place_of(key) {
@@ -151,9 +152,11 @@ impl Flags {
     }
 
     /// What is to be told of a flag. It is forgotten once it is told how it came out.
-    pub fn ask(&mut self, key: u64) -> Option<UnaskedFlag>
+    pub(crate) fn ask(&mut self, key: u64) -> Option<UnaskedFlag>
         ensures told { Ascends key_of self.old → option_to_list result ≡ filter (flag_has key) self.old }
-        ensures kept { Ascends key_of self.old → IfSome result (λ f. self.new ≡ (if is_settled f then filter (λ g. not (flag_has key g)) self.old else self.old)) }
+        ensures kept { Ascends key_of self.old
+            → IfSome result (λ f.
+            self.new ≡ (if is_settled f then filter (λ g. not (flag_has key g)) self.old else self.old)) }
         ensures none { IfNone result (self.new ≡ self.old) }
     {
         let Some(place) = self.place_of(key) else {

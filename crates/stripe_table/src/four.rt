@@ -70,7 +70,7 @@ impl<X: Drop> Four<X> {
         }
     }
 
-    /// Puts a value behind the others. There must be room for it.
+    /// Puts a value after the others. There must be room for it.
     pub fn push(&mut self, x: X)
         requires { length self.old < 4 }
         ensures { self.new ≡ self.old ++ x ∷ [] }

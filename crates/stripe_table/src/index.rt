@@ -1,7 +1,8 @@
-//! Where keys wait. A key is a number that doesn't show its descriptor. So for each of 256 classes of keys the places are
-//! listed at which a key of the class waits, a bit for each place. A key that is taken back is looked for at the listed
-//! places of its class alone. These are few: the keys that are drawn one after the other fall into the classes one after
-//! the other. No place is lacking at which a key waits, whatever else is listed.
+//! Where keys wait. A key is a number that doesn't show its descriptor. So for each of 256 classes of
+//! keys the places are listed at which a key of the class waits, a bit for each place. A key that is
+//! taken back is looked for at the listed places of its class alone. These are few: the keys that are
+//! drawn one after the other fall into the classes one after the other. No place is lacking at which a
+//! key waits, whatever else is listed.
 ghost use Rattle.std.specs.Prelude.{◌≡◌, ◌<◌, ◌≤◌, ◌/◌, ◌%◌, ℕ, length, true, false, get_or, IfOk};
 ghost use Rattle.std.specs.List.{list_any};
 ghost use Rattle.std.specs.Int.{bit_at};
@@ -22,7 +23,7 @@ const CLASS_WORDS: u64 = 2;
 
 /// The listed places of each class, for which room is taken at the making.
 #[derive(Drop)]
-pub struct KeyIndex {
+pub(crate) struct KeyIndex {
     words: Vec<u64>,
 }
 
@@ -38,21 +39,22 @@ impl Model for KeyIndex {
 
 impl KeyIndex {
     /// No place is listed; an error is want of memory.
-    pub fn new(alloc: Global) -> Result<KeyIndex, AllocError> {
+    pub(crate) fn new(alloc: Global) -> Result<KeyIndex, AllocError> {
         let words = vec![in alloc; 0u64; (CLASSES * CLASS_WORDS) as usize]?;
         Ok(KeyIndex { words })
     }
 
     /// What is listed for a key's class of the first 64 places, or of the others.
-    pub fn half(&self, key: u64, half: usize) -> u64
+    pub(crate) fn half(&self, key: u64, half: usize) -> u64
         requires { half < 2 }
-        ensures { (place : ℕ) → place / 64 ≡ half → IsListed self.now key place → bit_at result (place % 64) ≡ 1 }
+        ensures { (place : ℕ) → place / 64 ≡ half → IsListed self.now key place
+            → bit_at result (place % 64) ≡ 1 }
     {
         self.words[(key / STRIPES % CLASSES * CLASS_WORDS) as usize + half]
     }
 
     /// Lists a place for the class of a key that waits there.
-    pub fn add(&mut self, key: u64, place: usize)
+    pub(crate) fn add(&mut self, key: u64, place: usize)
         requires { place < 128 }
         ensures here { IsListed self.new key place }
         ensures kept { (k p : ℕ) → IsListed self.old k p → IsListed self.new k p }
@@ -62,7 +64,7 @@ impl KeyIndex {
     }
 
     /// A place is listed no more for the class of a key.
-    pub fn remove(&mut self, key: u64, place: usize)
+    pub(crate) fn remove(&mut self, key: u64, place: usize)
         requires { place < 128 }
         ensures { KeepsOthers place self.old self.new }
     {
@@ -71,7 +73,7 @@ impl KeyIndex {
     }
 
     /// Lists a place for each of the registrations that wait there.
-    pub fn add_all<T: Drop>(&mut self, waits: &Four<Registration<T>>, place: usize)
+    pub(crate) fn add_all<T: Drop>(&mut self, waits: &Four<Registration<T>>, place: usize)
         requires { place < 128 }
         ensures here { ListsAll self.new place waits.now }
         ensures kept { (k p : ℕ) → IsListed self.old k p → IsListed self.new k p }
@@ -85,7 +87,7 @@ impl KeyIndex {
     }
 
     /// A place is listed no more for any of the registrations.
-    pub fn remove_all<T: Drop>(&mut self, taken: &Four<Registration<T>>, place: usize)
+    pub(crate) fn remove_all<T: Drop>(&mut self, taken: &Four<Registration<T>>, place: usize)
         requires { place < 128 }
         ensures { KeepsOthers place self.old self.new }
     {
@@ -97,8 +99,9 @@ impl KeyIndex {
         }
     }
 
-    /// Registrations are taken out of a place, and others are left there, some of which may be of the same class.
-    pub fn take_out<T: Drop>(
+    /// Registrations are taken out of a place, and others are left there, some of which
+    /// may be of the same class.
+    pub(crate) fn take_out<T: Drop>(
         &mut self,
         taken: &Four<Registration<T>>,
         left: &Four<Registration<T>>,

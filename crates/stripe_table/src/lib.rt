@@ -1,9 +1,9 @@
-//! One stripe of the table of callbacks: the registrations of the 128 descriptors `fd` with the same `fd % 32`, with
-//! their readiness, their events and the flags that haven't been asked to their end. It is used by one thread at a
-//! time, lies behind one lock, and stores nothing of its past.
+//! One stripe of the table of callbacks: the registrations of the 128 descriptors `fd` with the same `fd %
+//! 32`, with their readiness, their events and the flags that haven't been asked to their end. It is used by
+//! one thread at a time, lies behind one lock, and stores nothing of its past.
 //!
-//! The promise: each call adds exactly one entry to the history that the stripe stands for, and its reply is the one
-//! that the definitions over that history give.
+//! The promise: each call adds exactly one entry to the history that the stripe stands for, and its reply is
+//! the one that the definitions over that history give.
 #![tactic(auto)]
 
 // What is registered, what is asked and what is answered.

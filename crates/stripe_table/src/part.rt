@@ -1,7 +1,7 @@
 //! The stripe as a part that calls are applied to one after the other.
 ghost use Rattle.std.specs.Prelude.{◌∷◌, [], map};
 ghost use Rattle.reg_keys.specs.Histories.{past_of};
-ghost use Rattle.stripe_table.specs.Stands.{Stands};
+ghost use Rattle.stripe_table.specs.Represents.{Represents};
 ghost use Rattle.stripe_table.specs.Calls.{entry_of, call_may, IsAnswerTo};
 ghost use Rattle.reg_keys.specs.declared.entry.Entry.{Entry};
 
@@ -19,7 +19,7 @@ impl<T: Load> Part for Stripe<T> {
     type Entry = Entry;
 
     // The stripe stands for the entries alone, whatever their seats.
-    ghost stands = { λ s h. Stands T.tag (past_of (map (λ e. e.1) h)) s };
+    ghost stands = { λ s h. Represents T.tag (past_of (map (λ e. e.1) h)) s };
 
     ghost name = { λ s. s.stripe ∷ s.first ∷ [] };
 

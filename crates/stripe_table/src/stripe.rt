@@ -37,12 +37,12 @@ impl<T: Load> Stripe<T> {
     ghost use Rattle.stripe_table.specs.Loads.{is_flag};
     ghost use Rattle.stripe_table.specs.Facts.{Facts, event_of, with_event};
     ghost use Rattle.stripe_table.specs.Index.{IsIndexed};
-    ghost use Rattle.stripe_table.specs.Stands.{Shows, Fits, Step, Stands};
+    ghost use Rattle.stripe_table.specs.Represents.{Shows, ShowsPast, Step, Represents};
 
     /// Makes a stripe, one of 32, that has no openings. Its numbers begin at the count 1.
     pub fn new(alloc: Global, stripe: u8) -> Result<Stripe<T>, AllocError>
         requires { stripe < 32 }
-        ensures { IfOk result (λ s. (s.stripe ≡ stripe) × (s.first ≡ 1) × Stands T.tag [] s) }
+        ensures { IfOk result (λ s. (s.stripe ≡ stripe) × (s.first ≡ 1) × Represents T.tag [] s) }
     {
         Stripe::from_count(alloc, stripe, 1)
     }
@@ -51,7 +51,7 @@ impl<T: Load> Stripe<T> {
     pub fn from_count(alloc: Global, stripe: u8, count: u64) -> Result<Stripe<T>, AllocError>
         requires stripe { stripe < 32 }
         requires count { (1 ≤ count) × (count < 2 ^ 50) }
-        ensures { IfOk result (λ s. (s.stripe ≡ stripe) × (s.first ≡ count) × Stands T.tag [] s) }
+        ensures { IfOk result (λ s. (s.stripe ≡ stripe) × (s.first ≡ count) × Represents T.tag [] s) }
     {
         let descriptors = no_descriptors(alloc)?;
         let flags = Flags::new(alloc)?;
@@ -68,8 +68,11 @@ impl<T: Load> Stripe<T> {
 
     /// The place of a live opening.
     fn place_of(&self, o: &Opening) -> Option<usize>
-        ensures there { IfSome result (λ i. (i ≡ o.now.fd / 32) × (d : OpenDescriptor T) × (slice_get self.now.descriptors.items i ≡ Some (Some d)) × (d.number ≡ o.now.number)) }
-        ensures absent { IfNone result ((d : OpenDescriptor T) → slice_get self.now.descriptors.items (o.now.fd / 32) ≡ Some (Some d) → d.number ≢ o.now.number) }
+        ensures there { IfSome result (λ i. (i ≡ o.now.fd / 32) × (d : OpenDescriptor T)
+            × (slice_get self.now.descriptors.items i ≡ Some (Some d)) × (d.number ≡ o.now.number)) }
+        ensures absent { IfNone result
+            ((d : OpenDescriptor T) → slice_get self.now.descriptors.items (o.now.fd / 32) ≡ Some (Some d)
+            → d.number ≢ o.now.number) }
     {
         let place = o.fd as usize / STRIPES as usize;
         if place >= self.descriptors.len() {
@@ -96,7 +99,8 @@ impl<T: Load> Stripe<T> {
     /// Names an event for an opening where one is due, which is at this place.
     fn name_event(&mut self, o: Opening, place: usize) -> Option<Event>
         requires count { self.old.count < 2 ^ 51 }
-        requires there { (d : OpenDescriptor T) × (slice_get self.old.descriptors.items place ≡ Some (Some d)) × (d.number ≡ o.number) }
+        requires there { (d : OpenDescriptor T) × (slice_get self.old.descriptors.items place ≡ Some (Some d))
+            × (d.number ≡ o.number) }
         requires of { o.fd ≡ 32 * place + self.old.stripe }
         ensures name { (self.new.stripe ≡ self.old.stripe) × (self.new.first ≡ self.old.first) }
         ensures event { (f : Facts) → Shows T.tag f self.old → result ≡ event_of self.old.stripe f o }
@@ -117,8 +121,9 @@ impl<T: Load> Stripe<T> {
     pub fn open(&mut self, fd: u16) -> OpenReply
         requires of { fd % 32 ≡ self.old.stripe }
         requires within { fd < 4096 }
-        requires fits { (past : List Entry) × Fits T.tag past self.old }
-        ensures { (past : List Entry) → Fits T.tag past self.old → Step T.tag past (Entries.Open fd (opened result)) self.old self.new }
+        requires fits { (past : List Entry) × ShowsPast T.tag past self.old }
+        ensures { (past : List Entry) → ShowsPast T.tag past self.old
+            → Step T.tag past (Entries.Open fd (opened result)) self.old self.new }
     {
         let place = fd as usize / STRIPES as usize;
         if let Some(descriptor) = &self.descriptors[place] {
@@ -139,8 +144,9 @@ impl<T: Load> Stripe<T> {
     /// Notes that an opening was reported ready.
     pub fn report(&mut self, o: Opening, dirs: Dirs) -> ReportReply
         requires of { o.fd % 32 ≡ self.old.stripe }
-        requires fits { (past : List Entry) × Fits T.tag past self.old }
-        ensures { (past : List Entry) → Fits T.tag past self.old → Step T.tag past (Entries.Report o dirs (reported result)) self.old self.new }
+        requires fits { (past : List Entry) × ShowsPast T.tag past self.old }
+        ensures { (past : List Entry) → ShowsPast T.tag past self.old
+            → Step T.tag past (Entries.Report o dirs (reported result)) self.old self.new }
     {
         let Some(place) = self.place_of(&o) else {
             return ReportReply::Stale;
@@ -160,7 +166,9 @@ impl<T: Load> Stripe<T> {
     /// Whether a registration finds no place for itself or for its flag.
     fn is_crowded(&self, place: usize, load: &Payload<T>) -> bool
         requires { (d : OpenDescriptor T) × (slice_get self.now.descriptors.items place ≡ Some (Some d)) }
-        ensures { (d : OpenDescriptor T) → slice_get self.now.descriptors.items place ≡ Some (Some d) → result ≡ (nat_le 4 (length d.waits + d.fired) || (is_flag load.now && nat_le 512 (length self.now.flags))) }
+        ensures { (d : OpenDescriptor T) → slice_get self.now.descriptors.items place ≡ Some (Some d) → result
+            ≡ (nat_le 4 (length d.waits + d.fired)
+            || (is_flag load.now && nat_le 512 (length self.now.flags))) }
     {
         let Some(descriptor) = &self.descriptors[place] else {
             unreachable!()
@@ -178,9 +186,11 @@ impl<T: Load> Stripe<T> {
         load: Payload<T>,
     ) -> RegisterReply<T>
         requires of { o.fd % 32 ≡ self.old.stripe }
-        requires fits { (past : List Entry) × Fits T.tag past self.old }
+        requires fits { (past : List Entry) × ShowsPast T.tag past self.old }
         ensures back { HandsBack load result }
-        ensures step { (past : List Entry) → Fits T.tag past self.old → Step T.tag past (Entries.Register o dir mark (kind_of T.tag load) (registered result)) self.old self.new }
+        ensures step { (past : List Entry) → ShowsPast T.tag past self.old
+            → Step T.tag past
+            (Entries.Register o dir mark (kind_of T.tag load) (registered result)) self.old self.new }
     {
         let Some(place) = self.place_of(&o) else {
             return RegisterReply::Shut(load);
@@ -203,12 +213,13 @@ impl<T: Load> Stripe<T> {
         RegisterReply::Waits(Key { number: key }, event)
     }
 
-    /// Runs what an event is for. An event that isn't out runs nothing.
+    /// Takes the registrations that an event fires. An event that isn't out fires none.
     pub fn dispatch(&mut self, event: Event) -> DispatchReply<T>
         requires of { event.opening.fd % 32 ≡ self.old.stripe }
-        requires fits { (past : List Entry) × Fits T.tag past self.old }
+        requires fits { (past : List Entry) × ShowsPast T.tag past self.old }
         ensures back { HandsEventBack event result }
-        ensures step { (past : List Entry) → Fits T.tag past self.old → Step T.tag past (Entries.Dispatch event (dispatched T.tag result)) self.old self.new }
+        ensures step { (past : List Entry) → ShowsPast T.tag past self.old
+            → Step T.tag past (Entries.Dispatch event (dispatched T.tag result)) self.old self.new }
     {
         let o = event.opening();
         let Some(place) = self.place_of(&o) else {
@@ -228,8 +239,9 @@ impl<T: Load> Stripe<T> {
     /// Closes an opening and gives back what waits.
     pub fn close(&mut self, o: Opening) -> CloseReply<T>
         requires of { o.fd % 32 ≡ self.old.stripe }
-        requires fits { (past : List Entry) × Fits T.tag past self.old }
-        ensures { (past : List Entry) → Fits T.tag past self.old → Step T.tag past (Entries.Close o (closed T.tag result)) self.old self.new }
+        requires fits { (past : List Entry) × ShowsPast T.tag past self.old }
+        ensures { (past : List Entry) → ShowsPast T.tag past self.old
+            → Step T.tag past (Entries.Close o (closed T.tag result)) self.old self.new }
     {
         let Some(place) = self.place_of(&o) else {
             return CloseReply::NotOpen;
@@ -242,11 +254,16 @@ impl<T: Load> Stripe<T> {
         CloseReply::Shut(shut_all(waits, &mut self.flags))
     }
 
-    /// The place of the descriptor at which a key waits. It is one of those that the index lists for the key's class.
+    /// The place of the descriptor at which a key waits. It is one of those that the
+    /// index lists for the key's class.
     fn holder_of(&self, key: u64) -> Option<usize>
         requires { length self.now.descriptors.items ≡ 128 }
-        ensures there { IfSome result (λ i. (d : OpenDescriptor T) × (slice_get self.now.descriptors.items i ≡ Some (Some d)) × (list_any (waits_as key) d.waits ≡ true)) }
-        ensures absent { IfNone result (IsIndexed self.now.index self.now.descriptors.items → (i : ℕ) (d : OpenDescriptor T) → slice_get self.now.descriptors.items i ≡ Some (Some d) → list_any (waits_as key) d.waits ≡ false) }
+        ensures there { IfSome result
+            (λ i. (d : OpenDescriptor T) × (slice_get self.now.descriptors.items i ≡ Some (Some d))
+            × (list_any (waits_as key) d.waits ≡ true)) }
+        ensures absent { IfNone result (IsIndexed self.now.index self.now.descriptors.items
+            → (i : ℕ) (d : OpenDescriptor T) → slice_get self.now.descriptors.items i ≡ Some (Some d)
+            → list_any (waits_as key) d.waits ≡ false) }
     {
         if let Some(place) = self.holder_among(key, 0) {
             return Some(place);
@@ -258,8 +275,13 @@ impl<T: Load> Stripe<T> {
     fn holder_among(&self, key: u64, half: usize) -> Option<usize>
         requires many { length self.now.descriptors.items ≡ 128 }
         requires half { half < 2 }
-        ensures there { IfSome result (λ i. (d : OpenDescriptor T) × (slice_get self.now.descriptors.items i ≡ Some (Some d)) × (list_any (waits_as key) d.waits ≡ true)) }
-        ensures absent { IfNone result (IsIndexed self.now.index self.now.descriptors.items → (i : ℕ) (d : OpenDescriptor T) → i / 64 ≡ half → slice_get self.now.descriptors.items i ≡ Some (Some d) → list_any (waits_as key) d.waits ≡ false) }
+        ensures there { IfSome result
+            (λ i. (d : OpenDescriptor T) × (slice_get self.now.descriptors.items i ≡ Some (Some d))
+            × (list_any (waits_as key) d.waits ≡ true)) }
+        ensures absent { IfNone result
+            (IsIndexed self.now.index self.now.descriptors.items → (i : ℕ) (d : OpenDescriptor T)
+            → i / 64 ≡ half → slice_get self.now.descriptors.items i ≡ Some (Some d)
+            → list_any (waits_as key) d.waits ≡ false) }
     {
         let mut listed = self.index.half(key, half);
         while listed != 0 {
@@ -275,8 +297,9 @@ impl<T: Load> Stripe<T> {
 
     /// Takes back a registration that waits.
     pub fn withdraw(&mut self, key: Key) -> WithdrawReply<T>
-        requires { (past : List Entry) × Fits T.tag past self.old }
-        ensures { (past : List Entry) → Fits T.tag past self.old → Step T.tag past (Entries.Withdraw key (withdrawn T.tag result)) self.old self.new }
+        requires { (past : List Entry) × ShowsPast T.tag past self.old }
+        ensures { (past : List Entry) → ShowsPast T.tag past self.old
+            → Step T.tag past (Entries.Withdraw key (withdrawn T.tag result)) self.old self.new }
     {
         let Some(place) = self.holder_of(key.number) else {
             return WithdrawReply::Gone;
@@ -295,10 +318,19 @@ impl<T: Load> Stripe<T> {
 
     /// Gives the place of a flag free that ran and was asked for, if its opening is live.
     fn free_place(&mut self, o: &Opening)
-        requires { (d : OpenDescriptor T) → slice_get self.old.descriptors.items (o.now.fd / 32) ≡ Some (Some d) → d.number ≡ o.now.number → 0 < d.fired }
-        ensures same { (self.new.stripe ≡ self.old.stripe) × (self.new.first ≡ self.old.first) × (self.new.count ≡ self.old.count) × (self.new.flags ≡ self.old.flags) × (self.new.index ≡ self.old.index) }
-        ensures absent { ((d : OpenDescriptor T) → slice_get self.old.descriptors.items (o.now.fd / 32) ≡ Some (Some d) → d.number ≢ o.now.number) → self.new.descriptors.items ≡ self.old.descriptors.items }
-        ensures there { (d : OpenDescriptor T) → slice_get self.old.descriptors.items (o.now.fd / 32) ≡ Some (Some d) → d.number ≡ o.now.number → self.new.descriptors.items ≡ set self.old.descriptors.items (o.now.fd / 32) (Some (record d { fired = d.fired - 1 })) }
+        requires { (d : OpenDescriptor T)
+            → slice_get self.old.descriptors.items (o.now.fd / 32) ≡ Some (Some d)
+            → d.number ≡ o.now.number → 0 < d.fired }
+        ensures same { (self.new.stripe ≡ self.old.stripe) × (self.new.first ≡ self.old.first)
+            × (self.new.count ≡ self.old.count) × (self.new.flags ≡ self.old.flags)
+            × (self.new.index ≡ self.old.index) }
+        ensures absent { ((d : OpenDescriptor T)
+            → slice_get self.old.descriptors.items (o.now.fd / 32) ≡ Some (Some d) → d.number ≢ o.now.number)
+            → self.new.descriptors.items ≡ self.old.descriptors.items }
+        ensures there { (d : OpenDescriptor T)
+            → slice_get self.old.descriptors.items (o.now.fd / 32) ≡ Some (Some d) → d.number ≡ o.now.number
+            → self.new.descriptors.items
+            ≡ set self.old.descriptors.items (o.now.fd / 32) (Some (record d { fired = d.fired - 1 })) }
     {
         let Some(place) = self.place_of(o) else {
             return;
@@ -311,8 +343,9 @@ impl<T: Load> Stripe<T> {
 
     /// Asks how a flag came out. It is forgotten once it is told.
     pub fn ask(&mut self, key: Key) -> AskReply
-        requires { (past : List Entry) × Fits T.tag past self.old }
-        ensures { (past : List Entry) → Fits T.tag past self.old → Step T.tag past (Entries.Ask key (asked result)) self.old self.new }
+        requires { (past : List Entry) × ShowsPast T.tag past self.old }
+        ensures { (past : List Entry) → ShowsPast T.tag past self.old
+            → Step T.tag past (Entries.Ask key (asked result)) self.old self.new }
     {
         let Some(flag) = self.flags.ask(key.number) else {
             return AskReply::Unknown;

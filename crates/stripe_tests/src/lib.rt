@@ -1,8 +1,6 @@
-//! Tests of `stripe_table`: tables of calls on a stripe and of the replies that they must have, and a stripe in a turn
-//! cell. They stand in a crate of their own, since a crate with tests is proved twice.
+//! Tests of `stripe_table`: tables of calls on a stripe and of the replies that they must have, and a stripe
+//! in a turn cell. They stand in a crate of their own, since a crate with tests is proved twice.
 #![tactic(auto)]
 
-#[cfg(test)]
-mod limit_tests;
 #[cfg(test)]
 mod tests;

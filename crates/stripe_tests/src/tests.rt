@@ -1,7 +1,9 @@
 //! Calls on one descriptor of a stripe in their order, each with the reply that it must have.
 ghost use Rattle.std.specs.Prelude.{◌≡◌, ◌≤◌, ◌<◌, ◌^◌, [], List};
 ghost use Rattle.reg_keys.specs.declared.entry.Entry.{Entry};
-ghost use Rattle.stripe_table.specs.Stands.{Fits};
+ghost use Rattle.stripe_table.specs.Represents.{ShowsPast};
+
+mod limits;
 
 use reg_keys::{Dir, Dirs, Event, Key, Opening};
 use std::alloc::Global;
@@ -163,9 +165,9 @@ fn closed_text(alloc: Global, reply: CloseReply<Job>) -> Result<String, Fail> {
 /// Makes one call and tells its reply as a text.
 pub fn perform(alloc: Global, stripe: &mut Stripe<Job>, call: Do) -> Result<String, Fail>
     requires stripe { stripe.old.stripe ≡ 0 }
-    requires fits { (past : List Entry) × Fits (λ _. []) past stripe.old }
+    requires fits { (past : List Entry) × ShowsPast (λ _. []) past stripe.old }
     ensures stripe { stripe.new.stripe ≡ 0 }
-    ensures fits { (past : List Entry) × Fits (λ _. []) past stripe.new }
+    ensures fits { (past : List Entry) × ShowsPast (λ _. []) past stripe.new }
 {
     match call {
         Do::Open => opened_text(alloc, stripe.open(0)),

@@ -1,5 +1,6 @@
 -- Each step keeps the rule.
-use Rattle.std.proofs.Common.{◌≡◌, ◌≢◌, ℕ, zero, suc, ◌+◌, ◌*◌, ◌≤◌, ◌⊎◌, ⊎_elim, List, [], ◌∷◌, ◌++◌, length, set, get_or, refl, sym, ap, ◌∙◌, subst, arith}
+use Rattle.std.proofs.Common.{◌≡◌, ◌≢◌, ℕ, zero, suc, ◌+◌, ◌*◌, ◌≤◌, ◌⊎◌, ⊎_elim, List, [], ◌∷◌, ◌++◌, length}
+use Rattle.std.proofs.Common.{set, get_or, refl, sym, ap, ◌∙◌, subst, arith}
 use Rattle.std.specs.Prelude.{Option}
 use Rattle.std.proofs.lemmas.List.{append_assoc, append-nil, length-set, set-get_or}
 use mathlib.Core.Option as maths
@@ -56,7 +57,8 @@ pub stay : (K : ℕ → TimeView → Type 0) (vs : List TimeView) (id : ℕ) (w 
     → ((j : ℕ) (d : TimeView) → j ≢ id → get_elem? vs j ≡ some d → K j d)
     → (j : ℕ) (d : TimeView) → get_elem? (set vs id w) j ≡ some d → K j d
 stay K vs id w mine others j d e =
-    ⊎_elim (λ (t : (j ≡ id) × (w ≡ d)). subst (λ (x : ℕ × TimeView). K x.0 x.1) (λ i. (sym t.0 i, t.1 i)) mine)
+    ⊎_elim
+    (λ (t : (j ≡ id) × (w ≡ d)). subst (λ (x : ℕ × TimeView). K x.0 x.1) (λ i. (sym t.0 i, t.1 i)) mine)
     (λ (t : (j ≢ id) × (get_elem? vs j ≡ some d)). others j d t.0 t.1) (at_set vs id j w d e)
 
 -- the pass doesn't have the slot in its hand
@@ -80,7 +82,8 @@ not_at k n (Holds j m) f = f
 abbrev pub IsFree : ℕ → Type 0
 IsFree n = (u : ℕ) → (n ≢ 8 * u + 1) × (n ≢ 8 * u + 4)
 
-pub not_at_free : (ws : List ℕ) (k n : ℕ) (a : Holding) → get_elem? ws k ≡ some n → IsFree n → HasLeft ws a → NotAt k a
+pub not_at_free : (ws : List ℕ) (k n : ℕ) (a : Holding) → get_elem? ws k ≡ some n → IsFree n
+    → HasLeft ws a → NotAt k a
 not_at_free ws k n Idle at f l = tt
 not_at_free ws k n (Holds j m) at f l = λ e. let same : m ≡ n =
     some-injective m n (sym l.0 ∙ (ap (get_elem? ws) e ∙ at)) in
@@ -91,43 +94,51 @@ left_stays ws k n Idle f l = tt
 left_stays ws k n (Holds j m) f l = (set_else ws k j n f ∙ l.0, l.1)
 
 end_trans : (xs ys zs : WatchLog) → IsPastOf xs ys → IsPastOf ys zs → IsPastOf xs zs
-end_trans xs ys zs a b = (b.0 ++ a.0, b.1 ∙ (ap (λ (l : WatchLog). b.0 ++ l) a.1 ∙ sym (append_assoc b.0 a.0 xs)))
+end_trans xs ys zs a b =
+    (b.0 ++ a.0, b.1 ∙ (ap (λ (l : WatchLog). b.0 ++ l) a.1 ∙ sym (append_assoc b.0 a.0 xs)))
 
--- what the pass knows behind a step that showed these items, where the history was this
+-- what the pass knows after a step that showed these items, where the history was this
 abbrev pub told_view : WatchLog → List Shown → Holding → TimeView → TimeView
-told_view log items hd v = record { seen = entries_in items ++ log; told = []; kept = items ++ v.kept; hand = hd }
+told_view log items hd v =
+    record { seen = entries_in items ++ log; told = []; kept = items ++ v.kept; hand = hd }
 
 module _ (s : St) (r : IsKept s) (id : ℕ) (v0 : TimeView) (at : get_elem? s.views id ≡ some v0) where
   pub tells : (items : List Shown) (hd : Holding) → IsWatchHistory (entries_in items ++ r.log)
       → Tells items hd v0 (told_view r.log items hd v0)
-  tells items hd legal = let a = r.seen id v0 at in let new : WatchLog = entries_in items in record {
-    later = a.0.0;
-    seen = ap (λ (l : WatchLog). new ++ l) a.0.1;
-    kept = refl;
-    holds = refl;
-    told = refl;
-    told_too = end_trans v0.told r.log (new ++ r.log) a.1 (new, refl);
-    legal = legal;
-    own = λ f. let x = total_append f new (own_entries v0) in
-        let y = total_append f new r.log in
-        let z = total_at (λ v. total f (own_entries v)) s.views id v0 at in
-        let t = r.sums f in
-        let e : total f (entries_in (items ++ v0.kept)) ≡ total f (new ++ own_entries v0) =
-        ap (total f) (entries_append items v0.kept) in
-        omega (arith, x, y, z, t, e);
-  }
+  tells items hd legal =
+      let a = r.seen id v0 at in
+      let new : WatchLog = entries_in items in record {
+        later = a.0.0;
+        seen = ap (λ (l : WatchLog). new ++ l) a.0.1;
+        kept = refl;
+        holds = refl;
+        told = refl;
+        told_too = end_trans v0.told r.log (new ++ r.log) a.1 (new, refl);
+        legal = legal;
+        own = λ f. let x = total_append f new (own_entries v0) in
+            let y = total_append f new r.log in
+            let z = total_at (λ v. total f (own_entries v)) s.views id v0 at in
+            let t = r.sums f in
+            let e : total f (entries_in (items ++ v0.kept)) ≡ total f (new ++ own_entries v0) =
+            ap (total f) (entries_append items v0.kept) in
+            omega (arith, x, y, z, t, e);
+      }
 
-  -- the table behind a step that showed these items
+  -- the table after a step that showed these items
   pub keeps_rule : (ws : List ℕ) (hs : List H) (items : List Shown) (w : TimeView)
       → IsWatchHistory (entries_in items ++ r.log) → length ws ≡ length hs
       → ((k n : ℕ) (h : H) → get_elem? ws k ≡ some n → get_elem? hs k ≡ some h
       → IsPlace (entries_in items ++ r.log) k n h)
       → IsPastOf w.seen (entries_in items ++ r.log) × IsPastOf w.told (entries_in items ++ r.log)
-      → ((f : WatchEntry → ℕ) → total f (own_entries w) ≡ total f (entries_in items) + total f (own_entries v0))
-      → HasLeft ws w.hand → ((j : ℕ) (v : TimeView) → j ≢ id → get_elem? s.views j ≡ some v → HasLeft ws v.hand)
-      → ((j : ℕ) (v : TimeView) → j ≢ id → get_elem? s.views j ≡ some v → Apart v.hand w.hand × Apart w.hand v.hand)
+      → ((f : WatchEntry → ℕ)
+      → total f (own_entries w) ≡ total f (entries_in items) + total f (own_entries v0))
+      → HasLeft ws w.hand
+      → ((j : ℕ) (v : TimeView) → j ≢ id → get_elem? s.views j ≡ some v → HasLeft ws v.hand)
+      → ((j : ℕ) (v : TimeView) → j ≢ id → get_elem? s.views j ≡ some v
+      → Apart v.hand w.hand × Apart w.hand v.hand)
       → IsKept record { words = ws; homes = hs; views = set s.views id w }
-  keeps_rule ws hs items w legal long places ends kept mine others apart = let new : WatchLog = entries_in items in
+  keeps_rule ws hs items w legal long places ends kept mine others apart =
+      let new : WatchLog = entries_in items in
       record {
         log = new ++ r.log;
         legal = legal;
@@ -140,12 +151,16 @@ module _ (s : St) (r : IsKept s) (id : ℕ) (v0 : TimeView) (at : get_elem? s.vi
             ));
         hands = stay (λ j v. HasLeft ws v.hand) s.views id w mine others;
         apart = λ i j v x ne ei ej.
-            ⊎_elim (λ (a : (i ≡ id) × (w ≡ v)). ⊎_elim (λ (b : (j ≡ id) × (w ≡ x)). absurd (ne (a.0 ∙ sym b.0)))
+            ⊎_elim
+            (λ (a : (i ≡ id) × (w ≡ v)). ⊎_elim (λ (b : (j ≡ id) × (w ≡ x)). absurd (ne (a.0 ∙ sym b.0)))
             (λ (b : (j ≢ id) × (get_elem? s.views j ≡ some x)).
-            subst (λ (y : TimeView). Apart y.hand x.hand) a.1 (apart j x b.0 b.1).1) (at_set s.views id j w x ej))
+            subst (λ (y : TimeView). Apart y.hand x.hand) a.1 (apart j x b.0 b.1).1)
+            (at_set s.views id j w x ej))
             (λ (a : (i ≢ id) × (get_elem? s.views i ≡ some v)).
-            ⊎_elim (λ (b : (j ≡ id) × (w ≡ x)). subst (λ (y : TimeView). Apart v.hand y.hand) b.1 (apart i v a.0 a.1).0)
-            (λ (b : (j ≢ id) × (get_elem? s.views j ≡ some x)). r.apart i j v x ne a.1 b.1) (at_set s.views id j w x ej))
+            ⊎_elim (λ (b : (j ≡ id) × (w ≡ x)).
+            subst (λ (y : TimeView). Apart v.hand y.hand) b.1 (apart i v a.0 a.1).0)
+            (λ (b : (j ≢ id) × (get_elem? s.views j ≡ some x)). r.apart i j v x ne a.1 b.1)
+            (at_set s.views id j w x ej))
             (at_set s.views id i w v ei);
         sums = λ f. let F : TimeView → ℕ = λ v. total f (own_entries v) in
             let y = total_append f new r.log in
@@ -161,7 +176,8 @@ module _ (s : St) (r : IsKept s) (id : ℕ) (v0 : TimeView) (at : get_elem? s.vi
 
   pub told_kept : (items : List Shown) (f : WatchEntry → ℕ)
       → total f (entries_in (items ++ v0.kept)) ≡ total f (entries_in items) + total f (own_entries v0)
-  told_kept items f = ap (total f) (entries_append items v0.kept) ∙ total_append f (entries_in items) (own_entries v0)
+  told_kept items f =
+      ap (total f) (entries_append items v0.kept) ∙ total_append f (entries_in items) (own_entries v0)
 
   -- no word and no slot is changed
   pub shows : (k : ℕ) (items : List Shown) → IsWatchHistory (entries_in items ++ r.log)
@@ -174,7 +190,8 @@ module _ (s : St) (r : IsKept s) (id : ℕ) (v0 : TimeView) (at : get_elem? s.vi
       }
   shows k items legal places =
       subst (λ ws.
-      IsKept record { words = ws; homes = s.homes; views = set s.views id (told_view r.log items v0.hand v0) })
+      IsKept
+      record { words = ws; homes = s.homes; views = set s.views id (told_view r.log items v0.hand v0) })
       (sym (set-get_or s.words k 0))
       (keeps_rule s.words s.homes items (told_view r.log items v0.hand v0) legal r.long
       (λ j m h ej eh. places j m h (r.places j m h ej eh)) (told_ends items v0.hand) (told_kept items)
@@ -188,7 +205,8 @@ module _ (s : St) (r : IsKept s) (id : ℕ) (v0 : TimeView) (at : get_elem? s.vi
       → ((j m : ℕ) (h : H) → j ≢ k → IsPlace r.log j m h → IsPlace (entries_in items ++ r.log) j m h)
       → ((h : H) → get_elem? hs k ≡ some h → IsPlace (entries_in items ++ r.log) k n' h)
       → IsPastOf w.seen (entries_in items ++ r.log) × IsPastOf w.told (entries_in items ++ r.log)
-      → ((f : WatchEntry → ℕ) → total f (own_entries w) ≡ total f (entries_in items) + total f (own_entries v0))
+      → ((f : WatchEntry → ℕ)
+      → total f (own_entries w) ≡ total f (entries_in items) + total f (own_entries v0))
       → HasLeft (set s.words k n') w.hand
       → ((j : ℕ) (v : TimeView) → j ≢ id → get_elem? s.views j ≡ some v → NotAt k v.hand)
       → (w.hand ≡ v0.hand) ⊎ ((w.hand ≡ Idle) ⊎ ((m : ℕ) × (w.hand ≡ Holds k m)))
@@ -198,7 +216,8 @@ module _ (s : St) (r : IsKept s) (id : ℕ) (v0 : TimeView) (at : get_elem? s.vi
       (λ j m h ej eh. ⊎_elim (λ (t : (j ≡ k) × (n' ≡ m)).
       subst (λ (x : ℕ × ℕ). IsPlace (entries_in items ++ r.log) x.0 x.1 h) (λ i. (sym t.0 i, t.1 i))
       (here h (ap (get_elem? hs) (sym t.0) ∙ eh)))
-      (λ (t : (j ≢ k) × (get_elem? s.words j ≡ some m)). places j m h t.0 (r.places j m h t.1 (homes j h t.0 eh)))
+      (λ (t : (j ≢ k) × (get_elem? s.words j ≡ some m)).
+      places j m h t.0 (r.places j m h t.1 (homes j h t.0 eh)))
       (at_set s.words k j n' m ej))
       ends kept mine (λ j v ne e. left_stays s.words k n' v.hand (off j v ne e) (r.hands j v e))
       (λ j v ne e. ⊎_elim (λ (x : w.hand ≡ v0.hand). subst (λ (a : Holding). Apart v.hand a

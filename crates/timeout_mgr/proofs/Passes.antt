@@ -1,5 +1,6 @@
 -- The start, and passes that are split and joined.
-use Rattle.std.proofs.Common.{◌≡◌, ◌≢◌, ℕ, zero, suc, ◌⊎◌, inl, inr, ⊎_elim, List, [], ◌∷◌, ◌++◌, length, map, replicate, set, refl, sym, ap, ◌∙◌, subst, arith}
+use Rattle.std.proofs.Common.{◌≡◌, ◌≢◌, ℕ, zero, suc, ◌⊎◌, inl, inr, ⊎_elim, List, [], ◌∷◌, ◌++◌, length, map}
+use Rattle.std.proofs.Common.{replicate, set, refl, sym, ap, ◌∙◌, subst, arith}
 use Rattle.std.specs.Prelude.{Option, None}
 use Rattle.std.proofs.lemmas.List.{length-replicate}
 use mathlib.Core.Option.{some, some-injective, some-ne-none}
@@ -31,7 +32,8 @@ idle_right a b e = subst (Apart a) (sym e) (apart_idle a)
 -- hands stay apart among views of which each is idle or was there
 still_apart : (s : St) (r : IsKept s) (vs : List TimeView)
     → ((j : ℕ) (d : TimeView) → get_elem? vs j ≡ some d → (d.hand ≡ Idle) ⊎ (get_elem? s.views j ≡ some d))
-    → (i j : ℕ) (v w : TimeView) → i ≢ j → get_elem? vs i ≡ some v → get_elem? vs j ≡ some w → Apart v.hand w.hand
+    → (i j : ℕ) (v w : TimeView) → i ≢ j → get_elem? vs i ≡ some v → get_elem? vs j ≡ some w
+    → Apart v.hand w.hand
 still_apart s r vs was i j v w ne ei ej =
     ⊎_elim (λ e. idle_left v.hand w.hand e)
     (λ a. ⊎_elim (λ e. idle_right v.hand w.hand e) (λ b. r.apart i j v w ne a b) (was j w ej)) (was i v ei)
@@ -120,25 +122,28 @@ long_mapped : (n : ℕ) → length (map some (nones n)) ≡ n
 long_mapped zero = refl
 long_mapped (suc n) = let r = long_mapped n in omega (arith, r)
 
-pub starts : (o : Opening) (n : ℕ) (ws : List ℕ) → ws ≡ replicate n 0 → IsKept (opening ws (nones n) first_view)
+pub starts : (o : Opening) (n : ℕ) (ws : List ℕ) → ws ≡ replicate n 0
+    → IsKept (opening ws (nones n) first_view)
 starts o n ws is = record {
   log = [];
   legal = tt;
   long = ap length is ∙ (length-replicate n 0 ∙ sym (long_mapped n));
-  places = λ k m h e g. let z : 0 ≡ m = at_replicate n 0 m k (subst (λ (l : List ℕ). get_elem? l k ≡ some m) is e) in (
-    0,
-    Free,
-    o,
-    record {
-      word = omega (arith, z);
-      small = omega arith;
-      past = λ i l. absurd (omega (arith, l));
-      now =
-          refl;
-      future = λ i l. refl;
-      home = at_mapped n k h g;
-    },
-  );
+  places =
+      λ k m h e g.
+      let z : 0 ≡ m = at_replicate n 0 m k (subst (λ (l : List ℕ). get_elem? l k ≡ some m) is e) in (
+        0,
+        Free,
+        o,
+        record {
+          word = omega (arith, z);
+          small = omega arith;
+          past = λ i l. absurd (omega (arith, l));
+          now =
+              refl;
+          future = λ i l. refl;
+          home = at_mapped n k h g;
+        },
+      );
   seen = λ j v e. subst (λ (x : TimeView). IsPastOf x.seen []
       × IsPastOf x.told []) (only j v e) (([], refl), ([], refl));
   hands = λ j v e. subst (λ (x : TimeView). HasLeft ws x.hand) (only j v e) tt;

@@ -1,5 +1,6 @@
--- How it stands with watches, and with a slot, behind one entry more.
-use Rattle.std.proofs.Common.{◌≡◌, ◌≢◌, ℕ, ◌+◌, ◌*◌, ◌^◌, ◌<◌, ◌≤◌, ◌∷◌, Bool, true, false, refl, sym, ap, ◌∙◌, subst, eq-eqb, ne_eqb, lt_of_not-le, arith}
+-- How it stands with watches, and with a slot, after one entry more.
+use Rattle.std.proofs.Common.{◌≡◌, ◌≢◌, ℕ, ◌+◌, ◌*◌, ◌^◌, ◌<◌, ◌≤◌, ◌∷◌, Bool, true, false, refl, sym, ap}
+use Rattle.std.proofs.Common.{◌∙◌, subst, eq-eqb, ne_eqb, lt_of_not-le, arith}
 use Rattle.std.specs.Prelude.{◌&&◌, ◌==◌, if◌then◌else◌, Option, None}
 use mathlib.Core.Option as maths
 use native.Mathlib.Decide.{ℕ_discrete, dec_le}
@@ -7,7 +8,8 @@ use Rattle.reg_keys.specs.declared.Opening.{Opening}
 use Rattle.timeout_mgr.specs.declared.view.WatchName.{WatchName}
 use Rattle.timeout_mgr.specs.declared.view.WatchEntry.{WatchEntry}
 use Rattle.timeout_mgr.specs.declared.view.WatchEntry.TheVariants.{Tickled, Cancelled}
-use Rattle.timeout_mgr.specs.Watches.{WatchLog, Status, Unborn, Lives, Ended, name_of, is_of, watch_entries, is_alive, after, status_after, status, before}
+use Rattle.timeout_mgr.specs.Watches.{WatchLog, Status, Unborn, Lives, Ended, name_of, is_of, watch_entries}
+use Rattle.timeout_mgr.specs.Watches.{is_alive, after, status_after, status, before}
 use Rattle.timeout_mgr.specs.Rule.{used, status_at, Home, At, IsPlace}
 use Rattle.timeout_mgr.specs.Word.{code_of, state_at}
 use Rattle.timeout_mgr.specs.declared.word.SlotState.{SlotState}
@@ -26,7 +28,8 @@ module _ (k m : ℕ) (d : WatchEntry) (past : WatchLog) where
   abbrev chosen : Bool → Status
   chosen b = status_after (if b then d ∷ watch_entries k m past else watch_entries k m past)
 
-  pub here_is : (name_of d).slot ≡ k → (name_of d).number ≡ m → status k m (d ∷ past) ≡ after d (status k m past)
+  pub here_is : (name_of d).slot ≡ k → (name_of d).number ≡ m
+      → status k m (d ∷ past) ≡ after d (status k m past)
   here_is s n = ap chosen (of_here k m (name_of d) s n)
 
   pub slot_is : (name_of d).slot ≢ k → status k m (d ∷ past) ≡ status k m past
@@ -69,7 +72,8 @@ module _ (log : WatchLog) (k n : ℕ) (h : maths.Option (Option Opening)) (u : �
 
   pub moves : (d : WatchEntry) → (name_of d).slot ≡ k → (name_of d).number ≡ u
       → (c' : SlotState) (o' : Opening) (n' : ℕ) (h' : maths.Option (Option Opening))
-      → n' ≡ 8 * u + code_of c' → u + used c' ≤ 2 ^ 40 → after d (status_at c o) ≡ status_at c' o' → Home c' o' h'
+      → n' ≡ 8 * u + code_of c' → u + used c' ≤ 2 ^ 40 → after d (status_at c o) ≡ status_at c' o'
+      → Home c' o' h'
       → At (d ∷ log) k n' h' u c' o'
   moves d s x c' o' n' h' w small e home = record {
     word = w;
@@ -103,7 +107,11 @@ pub same_state : (c d : SlotState) → code_of c ≡ code_of d → c ≡ d
 same_state c d e = sym (state_back c) ∙ (ap state_at e ∙ state_back d)
 
 pub same_word : (u v : ℕ) (c d : SlotState) → 8 * u + code_of c ≡ 8 * v + code_of d → (u ≡ v) × (c ≡ d)
-same_word u v c d e = let x = code_below c in let y = code_below d in let p : ℕ = code_of c in let q : ℕ = code_of d in
+same_word u v c d e =
+    let x = code_below c in
+    let y = code_below d in
+    let p : ℕ = code_of c in
+    let q : ℕ = code_of d in
     let x' : p < 5 = x in
     let y' : q < 5 = y in
     let e' : 8 * u + p ≡ 8 * v + q = e in
@@ -117,7 +125,8 @@ known log k n h p u c e = let t = same_word p.0 u p.1 c (sym p.3.word ∙ e) in
     (p.2, subst (λ (x : ℕ × SlotState). At log k n h x.0 x.1 p.2) (λ i. (t.0 i, t.1 i)) p.3)
 
 -- where the word doesn't show that a watch lives, it doesn't
-dead_now : (log : WatchLog) (k n : ℕ) (h : maths.Option (Option Opening)) (u : ℕ) (c : SlotState) (o : Opening)
+dead_now : (log : WatchLog) (k n : ℕ) (h : maths.Option (Option Opening)) (u : ℕ)
+    (c : SlotState) (o : Opening)
     → At log k n h u c o → n ≢ 8 * u + 2 → n ≢ 8 * u + 3 → is_alive (status k u log) ≡ false
 dead_now log k n h u Free o a x y = ap is_alive a.now
 dead_now log k n h u Making o a x y = ap is_alive a.now
@@ -125,7 +134,8 @@ dead_now log k n h u Active o a x y = absurd (x a.word)
 dead_now log k n h u Inactive o a x y = absurd (y a.word)
 dead_now log k n h u Leaving o a x y = ap is_alive a.now
 
-pub dead : (log : WatchLog) (k n : ℕ) (h : maths.Option (Option Opening)) → IsPlace log k n h → (m : ℕ) → n ≢ 8 * m + 2
+pub dead : (log : WatchLog) (k n : ℕ) (h : maths.Option (Option Opening)) → IsPlace log k n h
+    → (m : ℕ) → n ≢ 8 * m + 2
     → n ≢ 8 * m + 3 → is_alive (status k m log) ≡ false
 dead log k n h p m x y = elim (ℕ_discrete m p.0) [
   | yes e ↦ ap (λ (z : ℕ). is_alive (status k z log)) e

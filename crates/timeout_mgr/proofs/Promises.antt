@@ -1,5 +1,6 @@
 -- What holds of every history of watches, and of what a full table shows.
-use Rattle.std.proofs.Common.{◌≡◌, ℕ, zero, suc, ◌+◌, ◌*◌, ◌/◌, ◌%◌, ◌<◌, ◌≤◌, ◌⊎◌, inl, inr, ⊎_elim, List, [], ◌∷◌, ◌++◌, Bool, true, false, refl, sym, ap, ◌∙◌, subst, arith}
+use Rattle.std.proofs.Common.{◌≡◌, ℕ, zero, suc, ◌+◌, ◌*◌, ◌/◌, ◌%◌, ◌<◌, ◌≤◌, ◌⊎◌, inl, inr, ⊎_elim, List}
+use Rattle.std.proofs.Common.{[], ◌∷◌, ◌++◌, Bool, true, false, refl, sym, ap, ◌∙◌, subst, arith}
 use Rattle.std.specs.Prelude.{Option, Some, None, All, if◌then◌else◌}
 use Rattle.std.proofs.lemmas.List.{append_assoc}
 use Rattle.std.proofs.lemmas.List.Elements.{All-nil, All-cons}
@@ -10,7 +11,9 @@ use Rattle.timeout_mgr.specs.declared.view.WatchName.{WatchName}
 use Rattle.timeout_mgr.specs.declared.view.WatchEntry.{WatchEntry}
 use Rattle.timeout_mgr.specs.declared.view.WatchEntry.TheVariants.{Added, Tickled, Cancelled, Swept}
 use Rattle.timeout_mgr.specs.declared.view.Shown.{Shown}
-use Rattle.timeout_mgr.specs.Watches.{WatchLog, Status, Unborn, Lives, Ended, name_of, is_of, is_alive, after, watch_entries, status_after, status, before, IsWatchAnswer, IsWatchHistory}
+use Rattle.timeout_mgr.specs.Watches.{WatchLog, Status, Unborn, Lives, Ended, name_of, is_of, is_alive, after}
+use Rattle.timeout_mgr.specs.Watches.{watch_entries, status_after, status, before, IsWatchAnswer}
+use Rattle.timeout_mgr.specs.Watches.{IsWatchHistory}
 use Rattle.timeout_mgr.specs.Passes.{entry_of, entries_in}
 use Rattle.timeout_mgr.specs.Calls.{AreTaken, IsTakenAt, slot_at, SweptSlot, list_of, IsRound}
 use Rattle.timeout_mgr.specs.Promises.{adds, ends, gives, EndsOnce, IsGone, WasUnborn, StaysEnded, ShowsTaken}
@@ -81,7 +84,8 @@ counts_this k m (Swept x (Some p)) (Lives o true) e a = let b = ap one_if e in (
 counts_this k m (Swept x (Some p)) (Lives o false) e a = cc
 counts_this k m (Swept x (Some p)) Ended e a = cc
 
-counts_other : (k m : ℕ) (d : WatchEntry) → is_of k m (name_of d) ≡ false → (adds k m d ≡ 0) × (ends k m d ≡ 0)
+counts_other : (k m : ℕ) (d : WatchEntry) → is_of k m (name_of d) ≡ false
+    → (adds k m d ≡ 0) × (ends k m d ≡ 0)
 counts_other k m (Added x o) e = (ap one_if e, refl)
 counts_other k m (Tickled x alive) e = (refl, refl)
 counts_other k m (Cancelled x true) e = (refl, ap one_if e)
@@ -95,10 +99,16 @@ counted k m [] l = (refl, refl)
 counted k m (d ∷ past) l = let r = counted k m past l.1 in
     of_which k m d past ((total (adds k m) (d ∷ past) ≡ adds_at (status k m (d ∷ past)))
     × (total (ends k m) (d ∷ past) ≡ ends_at (status k m (d ∷ past)))) l.0
-    (λ t. let c = counts_other k m d t in let s = status_is k m d past false t in let x = ap adds_at s in
+    (λ t.
+    let c = counts_other k m d t in
+    let s = status_is k m d past false t in
+    let x = ap adds_at s in
     let y = ap ends_at s in (omega (arith, r, c, x), omega (arith, r, c, y)))
-    (λ t same a. let c = counts_this k m d (status k m past) t a in let s = status_is k m d past true t in
-    let x = ap adds_at s in let y = ap ends_at s in (omega (arith, r, c, x), omega (arith, r, c, y)))
+    (λ t same a.
+    let c = counts_this k m d (status k m past) t a in
+    let s = status_is k m d past true t in
+    let x = ap adds_at s in
+    let y = ap ends_at s in (omega (arith, r, c, x), omega (arith, r, c, y)))
 
 adds_few : (s : Status) → (adds_at s ≤ 1) × (ends_at s ≤ adds_at s)
 adds_few Unborn = (omega arith, omega arith)
@@ -107,8 +117,12 @@ adds_few Ended = (omega arith, omega arith)
 
 pub ends_once : (log : WatchLog) → IsWatchHistory log → EndsOnce log
 ends_once log l = record {
-  added = λ k m. let c = counted k m log l in let f = adds_few (status k m log) in omega (arith, c, f);
-  ended = λ k m. let c = counted k m log l in let f = adds_few (status k m log) in omega (arith, c, f);
+  added = λ k m.
+      let c = counted k m log l in
+      let f = adds_few (status k m log) in omega (arith, c, f);
+  ended = λ k m.
+      let c = counted k m log l in
+      let f = adds_few (status k m log) in omega (arith, c, f);
 }
 
 ended_if : (s : Status) → false ≡ is_alive s → 1 ≤ adds_at s → s ≡ Ended
@@ -141,7 +155,8 @@ stays_ended k m (d ∷ ds) past l e = let r = stays_ended k m ds past l.1 e in
     record {
       ended = status_is k m d (ds ++ past) true t ∙ x.0;
       gone =
-          subst (All IsGone) (sym (entries_are k m d ds true t)) (All-cons IsGone d (watch_entries k m ds) x.1 r.gone);
+          subst (All IsGone) (sym (entries_are k m d ds true t))
+          (All-cons IsGone d (watch_entries k m ds) x.1 r.gone);
     })
 
 unborn_this : (d : WatchEntry) (s : Status) → after d s ≡ Unborn → IsWatchAnswer d s → (s ≡ Unborn) × IsGone d
@@ -152,8 +167,12 @@ unborn_this (Tickled x alive) Ended e a = let z : Ended ≡ Unborn = e in cc
 unborn_this (Cancelled x alive) Unborn e a = (refl, a)
 unborn_this (Cancelled x alive) (Lives o b) e a = let z : Ended ≡ Unborn = e in cc
 unborn_this (Cancelled x alive) Ended e a = let z : Ended ≡ Unborn = e in cc
-unborn_this (Swept x None) s e a = let z : Lives a.0 true ≡ Unborn = sym (ap (after (Swept x None)) a.1) ∙ e in cc
-unborn_this (Swept x (Some o)) s e a = let z : Ended ≡ Unborn = sym (ap (after (Swept x (Some o))) a) ∙ e in cc
+unborn_this (Swept x None) s e a =
+    let z : Lives a.0 true ≡ Unborn = sym (ap (after (Swept x None)) a.1) ∙ e in
+    cc
+unborn_this (Swept x (Some o)) s e a =
+    let z : Ended ≡ Unborn = sym (ap (after (Swept x (Some o))) a) ∙ e in
+    cc
 
 unborn_gone : (k m : ℕ) (past : WatchLog) → IsWatchHistory past → status k m past ≡ Unborn
     → All IsGone (watch_entries k m past)
@@ -165,8 +184,10 @@ unborn_gone k m (d ∷ past) l e = of_which k m d past (All IsGone (watch_entrie
     subst (All IsGone) (sym (entries_are k m d past true t))
     (All-cons IsGone d (watch_entries k m past) x.1 (unborn_gone k m past l.1 x.0)))
 
-pub was_unborn : (k m : ℕ) (past : WatchLog) → IsWatchHistory past → status k m past ≡ Unborn → WasUnborn k m past
-was_unborn k m past l e = record { none = (counted k m past l).0 ∙ ap adds_at e; gone = unborn_gone k m past l e }
+pub was_unborn : (k m : ℕ) (past : WatchLog) → IsWatchHistory past → status k m past ≡ Unborn
+    → WasUnborn k m past
+was_unborn k m past l e =
+    record { none = (counted k m past l).0 ∙ ap adds_at e; gone = unborn_gone k m past l e }
 
 alive_this : (d : WatchEntry) (s : Status) (o : Opening) (b : Bool) → after d s ≡ Lives o b
     → (d ≡ Added (name_of d) o) ⊎ ((c : Bool) × (s ≡ Lives o c))
@@ -203,17 +224,20 @@ alive_this (Swept x g) Ended o b e = let z : Ended ≡ Lives o b = e in cc
 same_name : (k m : ℕ) (x : WatchName) → x.slot ≡ k → x.number ≡ m → x ≡ record { slot = k; number = m }
 same_name k m x s n = λ i. record { slot = s i; number = n i }
 
-born_for : (k m : ℕ) (log : WatchLog) (o : Opening) (b : Bool) → IsWatchHistory log → status k m log ≡ Lives o b
+born_for : (k m : ℕ) (log : WatchLog) (o : Opening) (b : Bool) → IsWatchHistory log
+    → status k m log ≡ Lives o b
     → IsIn (Added (record { slot = k; number = m }) o) log
 born_for k m [] o b l e = let z : Unborn ≡ Lives o b = e in cc
-born_for k m (d ∷ past) o b l e = of_which k m d past (IsIn (Added (record { slot = k; number = m }) o) (d ∷ past)) l.0
+born_for k m (d ∷ past) o b l e =
+    of_which k m d past (IsIn (Added (record { slot = k; number = m }) o) (d ∷ past)) l.0
     (λ t. inr (born_for k m past o b l.1 (sym (status_is k m d past false t) ∙ e)))
     (λ t same a.
     ⊎_elim (λ f. inl (sym (f ∙ ap (λ (x : WatchName). Added x o) (same_name k m (name_of d) same.0 same.1))))
     (λ f. inr (born_for k m past o f.0 l.1 f.1))
     (alive_this d (status k m past) o b (sym (status_is k m d past true t) ∙ e)))
 
-pub keeps_opening : (log : WatchLog) (x : WatchName) (o : Opening) → IsWatchHistory log → IsIn (Swept x (Some o)) log
+pub keeps_opening : (log : WatchLog) (x : WatchName) (o : Opening) → IsWatchHistory log
+    → IsIn (Swept x (Some o)) log
     → IsIn (Added x o) log
 keeps_opening [] x o l i = i
 keeps_opening (d ∷ past) x o l i = ⊎_elim
@@ -236,12 +260,14 @@ shows_each first (suc n) items t j h = elim (ℕ_discrete j n) [
   )
 ]
 
-pub shows_all : (first : ℕ) (items : List Shown) → AreTaken first 4096 items → (k : ℕ) → k < 4096 → ShowsTaken k items
+pub shows_all : (first : ℕ) (items : List Shown) → AreTaken first 4096 items → (k : ℕ)
+    → k < 4096 → ShowsTaken k items
 shows_all first items t k h = let place : ℕ = k % 8 * 512 + k / 8 in
     let there : slot_at place ≡ k = omega (arith, h) in
     let j : ℕ = (place + 4095 * first) % 4096 in
     let e : (first + j) % 4096 ≡ place = omega (arith, h) in
-    subst (λ (i : ℕ). ShowsTaken i items) (ap slot_at e ∙ there) (shows_each first 4096 items t j (omega arith))
+    subst (λ (i : ℕ). ShowsTaken i items) (ap slot_at e ∙ there)
+    (shows_each first 4096 items t j (omega arith))
 
 total_append : {A : Type 0} (f : A → ℕ) (xs ys : List A) → total f (xs ++ ys) ≡ total f xs + total f ys
 total_append f [] ys = omega arith
@@ -265,8 +291,12 @@ gave_one f k given item t = ⊎_elim
 pub gave_all : (f : Opening → ℕ) (k : ℕ) (items : List Shown) (out : List Opening) → IsRound k items out
     → total f out ≡ total (gives f) (entries_in items)
 unfolding IsRound
-gave_all f zero items out t = ap (total f) t.1 ∙ sym (ap (λ (l : List Shown). total (gives f) (entries_in l)) t.0)
-gave_all f (suc k) items out t = let r = gave_all f k t.1 t.3 t.7 in let o = gave_one f k t.2 t.0 t.6 in
-    let a = total_append f t.3 (list_of t.2) in let b = total_append (gives f) (entry_of t.0) (entries_in t.1) in
+gave_all f zero items out t =
+    ap (total f) t.1 ∙ sym (ap (λ (l : List Shown). total (gives f) (entries_in l)) t.0)
+gave_all f (suc k) items out t =
+    let r = gave_all f k t.1 t.3 t.7 in
+    let o = gave_one f k t.2 t.0 t.6 in
+    let a = total_append f t.3 (list_of t.2) in
+    let b = total_append (gives f) (entry_of t.0) (entries_in t.1) in
     ap (total f) t.5
     ∙ (a ∙ (omega (arith, r, o, b) ∙ sym (ap (λ (l : List Shown). total (gives f) (entries_in l)) t.4)))

@@ -1,5 +1,7 @@
 -- Each kind of step keeps the rule, and tells what it is to tell.
-use Rattle.std.proofs.Common.{◌≡◌, ◌≢◌, ℕ, zero, suc, ◌+◌, ◌*◌, ◌^◌, ◌<◌, ◌≤◌, ◌⊎◌, inl, inr, ⊎_elim, List, [], ◌∷◌, ◌++◌, length, set, get_or, Bool, true, false, refl, sym, ap, ◌∙◌, subst, eqb, arith}
+use Rattle.std.proofs.Common.{◌≡◌, ◌≢◌, ℕ, zero, suc, ◌+◌, ◌*◌, ◌^◌, ◌<◌, ◌≤◌, ◌⊎◌, inl, inr, ⊎_elim, List}
+use Rattle.std.proofs.Common.{[], ◌∷◌, ◌++◌, length, set, get_or, Bool, true, false, refl, sym, ap, ◌∙◌}
+use Rattle.std.proofs.Common.{subst, eqb, arith}
 use Rattle.std.specs.Prelude.{Option, Some, None}
 use Rattle.std.proofs.lemmas.List.{length-set}
 use mathlib.Core.Option as maths
@@ -17,17 +19,22 @@ use Rattle.timeout_mgr.specs.declared.view.Shown.TheVariants.{Decided, Passed, M
 use Rattle.timeout_mgr.specs.declared.view.TimeCall.{TimeCall}
 use Rattle.timeout_mgr.specs.declared.view.Holding.TheVariants.{Idle, Holds}
 use Rattle.timeout_mgr.specs.declared.view.TimeView.{TimeView}
-use Rattle.timeout_mgr.specs.Watches.{WatchLog, Lives, Ended, name_of, is_alive, after, status, IsWatchAnswer, before, IsWatchHistory}
+use Rattle.timeout_mgr.specs.Watches.{WatchLog, Lives, Ended, name_of, is_alive, after, status, IsWatchAnswer}
+use Rattle.timeout_mgr.specs.Watches.{before, IsWatchHistory}
 use Rattle.timeout_mgr.specs.Rule.{used, status_at, Home, At, IsPlace, HasLeft, Apart, IsKept, Tells}
 use Rattle.timeout_mgr.specs.Passes.{entries_in}
 use Rattle.timeout_mgr.specs.Word.{code_of}
 use Rattle.timeout_mgr.specs.declared.word.SlotState.{SlotState}
 use Rattle.timeout_mgr.specs.declared.word.SlotState.TheVariants.{Free, Making, Active, Inactive, Leaving}
-use Rattle.timeout_mgr.proofs.Places.{still_at, else_at, moves, restage, known, dead, tickle_still, cancel_still, next_use}
+use Rattle.timeout_mgr.proofs.Places.{still_at, else_at, moves, restage, known, dead, tickle_still}
+use Rattle.timeout_mgr.proofs.Places.{cancel_still, next_use}
 use Rattle.std.proofs.lemmas.Option.{same_Some}
 use Rattle.atomic_table.specs.Table.{Act, carried_after}
-use Rattle.timeout_mgr.specs.Plays.{M, name, Shows, Takes, saw, joined_look, take_try, added, freed, tickle_look, tickle_try, cancel_look, cancel_try, end_of, sweep_look, age_try, expire_try, answers}
-use Rattle.timeout_mgr.proofs.Keeps.{St, H, not_at, not_at_free, left_stays, IsFree, told_view, tells, told_ends, told_kept, shows, changes}
+use Rattle.timeout_mgr.specs.Plays.{M, name, HandShows, Takes, saw, joined_look, take_try, added, freed}
+use Rattle.timeout_mgr.specs.Plays.{tickle_look, tickle_try, cancel_look, cancel_try, end_of, sweep_look}
+use Rattle.timeout_mgr.specs.Plays.{age_try, expire_try, answers}
+use Rattle.timeout_mgr.proofs.Keeps.{St, H, not_at, not_at_free, left_stays, IsFree, told_view, tells}
+use Rattle.timeout_mgr.proofs.Keeps.{told_ends, told_kept, shows, changes}
 
 some_there : {A : Type 0} (l : List A) (k : ℕ) → k < length l → (a : A) × (get_elem? l k ≡ some a)
 some_there [] k h = absurd (omega arith)
@@ -73,21 +80,23 @@ module _ (s : St) (r : IsKept s) (id : ℕ) (me : M) (at : get_elem? s.views id 
 
   -- a step that shows items with no deed
   quiet : (items : List Shown) → entries_in items ≡ [] → (then : ℕ → M → Type 0)
-      → (Shows items me (told_view r.log items v0.hand v0, me.1) → then n (told_view r.log items v0.hand v0, me.1))
+      → (HandShows items me (told_view r.log items v0.hand v0, me.1)
+      → then n (told_view r.log items v0.hand v0, me.1))
       → Out s id me k then n
   quiet items none then tell = let legal : IsWatchHistory (entries_in items ++ r.log) =
       subst (λ (l : WatchLog). IsWatchHistory (l ++ r.log)) (sym none) r.legal in (
         told_view r.log items v0.hand v0,
         keeps,
         tt,
-        shows s r id v0 at k items legal (λ j m h p. subst (λ (l : WatchLog). IsPlace (l ++ r.log) j m h) (sym none) p),
+        shows s r id v0 at k items legal
+            (λ j m h p. subst (λ (l : WatchLog). IsPlace (l ++ r.log) j m h) (sym none) p),
         tell (tells s r id v0 at items v0.hand legal, refl),
       )
 
   -- a step that decides something without changing how it stands with any watch
   decides : (d : WatchEntry) → IsWatchAnswer d (before d r.log) → after d (before d r.log) ≡ before d r.log
       → (then : ℕ → M → Type 0)
-      → (Shows (Decided d ∷ []) me (told_view r.log (Decided d ∷ []) v0.hand v0, me.1)
+      → (HandShows (Decided d ∷ []) me (told_view r.log (Decided d ∷ []) v0.hand v0, me.1)
       → then n (told_view r.log (Decided d ∷ []) v0.hand v0, me.1)) → Out s id me k then n
   decides d fits still then tell = (
     told_view r.log (Decided d ∷ []) v0.hand v0,
@@ -102,11 +111,12 @@ module _ (s : St) (r : IsKept s) (id : ℕ) (me : M) (at : get_elem? s.views id 
 
   -- a step that decides something of the watch of this slot, and changes its word alone
   turns : (u : ℕ) (c : SlotState) (o : Opening) → At r.log k n home_at.0 u c o → IsFree n → (d : WatchEntry)
-      → (name_of d).slot ≡ k → (name_of d).number ≡ u → IsWatchAnswer d (before d r.log) → (c' : SlotState) (n' : ℕ)
+      → (name_of d).slot ≡ k → (name_of d).number ≡ u → IsWatchAnswer d (before d r.log)
+      → (c' : SlotState) (n' : ℕ)
       → n' ≡ 8 * u + code_of c' → u + used c' ≤ 2 ^ 40
       → after d (status_at c o) ≡ status_at c' o → ((h : H) → Home c o h → Home c' o h) → (items : List Shown)
       → entries_in items ≡ d ∷ [] → (then : ℕ → M → Type 0)
-      → (Shows items me (told_view r.log items v0.hand v0, me.1)
+      → (HandShows items me (told_view r.log items v0.hand v0, me.1)
       → then n (told_view r.log items v0.hand v0, me.1)) → Out s id me k then n'
   turns u c o a isfree d sl nu fits c' n' w small e home items one then tell =
       let legal : IsWatchHistory (entries_in items ++ r.log) =
@@ -125,7 +135,8 @@ module _ (s : St) (r : IsKept s) (id : ℕ) (me : M) (at : get_elem? s.views id 
                   (home h (subst (Home c o) (some-injective home_at.0 h (sym home_at.1 ∙ x)) a.home)),
             ))
             (told_ends s r id v0 at items v0.hand) (told_kept s r id v0 at items)
-            (left_stays s.words k n' v0.hand (not_at_free s.words k n v0.hand word_at isfree (r.hands id v0 at))
+            (left_stays s.words k n' v0.hand
+            (not_at_free s.words k n v0.hand word_at isfree (r.hands id v0 at))
             (r.hands id v0 at))
             (λ j v ne x. not_at_free s.words k n v.hand word_at isfree (r.hands j v x)) (inl refl),
         tell (tells s r id v0 at items v0.hand legal, refl),
@@ -133,7 +144,8 @@ module _ (s : St) (r : IsKept s) (id : ℕ) (me : M) (at : get_elem? s.views id 
 
   -- a step that takes the slot, with something decided of its watch
   takes_slot : (items : List Shown) → IsWatchHistory (entries_in items ++ r.log)
-      → ((j m : ℕ) (h : H) → j ≢ k → IsPlace r.log j m h → IsPlace (entries_in items ++ r.log) j m h) → IsFree n
+      → ((j m : ℕ) (h : H) → j ≢ k → IsPlace r.log j m h → IsPlace (entries_in items ++ r.log) j m h)
+      → IsFree n
       → (n' : ℕ) → IsPlace (entries_in items ++ r.log) k n' maths.none
       → (u : ℕ) × ((n' ≡ 8 * u + 1) ⊎ (n' ≡ 8 * u + 4)) → (x : Option Opening) → home_at.0 ≡ some x
       → (then : ℕ → M → Type 0)
@@ -155,7 +167,8 @@ module _ (s : St) (r : IsKept s) (id : ℕ) (me : M) (at : get_elem? s.views id 
   )
 
 tickles_live : (log : WatchLog) (k n : ℕ) (h : H) (u : ℕ) (c : SlotState) (o : Opening) → At log k n h u c o
-    → status k u log ≡ Lives o false → (a : Bool) → after (Tickled (name k u) a) (status k u log) ≡ status k u log
+    → status k u log ≡ Lives o false → (a : Bool)
+    → after (Tickled (name k u) a) (status k u log) ≡ status k u log
 tickles_live log k n h u c o at e a = ap (after (Tickled (name k u) a)) e ∙ sym e
 
 module _ (slots id : ℕ) (me : M) (k : ℕ) (inside : k < slots) where
@@ -169,14 +182,18 @@ module _ (slots id : ℕ) (me : M) (k : ℕ) (inside : k < slots) where
 
   pub compares : Allows IsKept slots id me k (λ n. n) (joined_look (step slots k 0 0 maths.none) me)
   compares s r len at small =
-      quiet s r id me at k (within_homes s len) [] refl (joined_look (step slots k 0 0 maths.none) me) (λ t. t)
+      quiet s r id me at k (within_homes s len)
+      [] refl (joined_look (step slots k 0 0 maths.none) me) (λ t. t)
 
-  pub ends_call : (c : TimeCall) → Allows IsKept slots id me k (λ n. n) (answers c (step slots k 0 0 maths.none) me)
+  pub ends_call : (c : TimeCall)
+      → Allows IsKept slots id me k (λ n. n) (answers c (step slots k 0 0 maths.none) me)
   ends_call c s r len at small =
-      quiet s r id me at k (within_homes s len) (Answered c ∷ []) refl (answers c (step slots k 0 0 maths.none) me)
+      quiet s r id me at k (within_homes s len) (Answered c ∷ []) refl
+      (answers c (step slots k 0 0 maths.none) me)
       (λ t. t)
 
-  pub tickle_looks : (u : ℕ) → Allows IsKept slots id me k (λ n. n) (tickle_look u (step slots k 0 0 maths.none) me)
+  pub tickle_looks : (u : ℕ)
+      → Allows IsKept slots id me k (λ n. n) (tickle_look u (step slots k 0 0 maths.none) me)
   tickle_looks u s r len at small = let i = within_homes s len in
       let n : ℕ = get_or s.words k 0 in
       let p = place s r id me at k i in
@@ -195,14 +212,18 @@ module _ (slots id : ℕ) (me : M) (k : ℕ) (inside : k < slots) where
       ]
 
   pub tickle_tries : (u old new : ℕ) → old ≡ 8 * u + 3 → new ≡ 8 * u + 2
-      → Allows IsKept slots id me k (λ n. either (eqb n old) new n) (tickle_try u (step slots k old new maths.none) me)
+      → Allows IsKept slots id me k (λ n. either (eqb n old) new n)
+      (tickle_try u (step slots k old new maths.none) me)
   tickle_tries u old new oe ne s r len at small = let i = within_homes s len in
       let n : ℕ = get_or s.words k 0 in
       let p = place s r id me at k i in
       let h : H = (home_at s r id me at k i).0 in
       let then : ℕ → M → Type 0 = tickle_try u (step slots k old new maths.none) me in
       exchanged n old new (Out s id me k then)
-      (λ hit. let e : n ≡ 8 * u + 3 = hit ∙ oe in let a = known r.log k n h p u Inactive e in let sm = a.1.small in
+      (λ hit.
+      let e : n ≡ 8 * u + 3 = hit ∙ oe in
+      let a = known r.log k n h p u Inactive e in
+      let sm = a.1.small in
       turns s r id me at k i u Inactive a.0 a.1 (λ v. (omega (arith, e), omega (arith, e)))
       (Tickled (name k u) true) refl refl (sym (ap is_alive a.1.now)) Active new ne sm refl (λ h x. x)
       (Decided (Tickled (name k u) true) ∷ []) refl then
@@ -211,12 +232,15 @@ module _ (slots id : ℕ) (me : M) (k : ℕ) (inside : k < slots) where
         | yes e ↦ let a = known r.log k n h p u Active e in
             decides s r id me at k i (Tickled (name k u) true) (sym (ap is_alive a.1.now))
             (tickles_live r.log k n h u Active a.0 a.1 a.1.now true) then (λ t. inl (inr e, t))
-        | no x ↦ let y : n ≢ 8 * u + 3 = λ z. miss (z ∙ sym oe) in let z = dead r.log k n h p u x y in
+        | no x ↦
+            let y : n ≢ 8 * u + 3 = λ z. miss (z ∙ sym oe) in
+            let z = dead r.log k n h p u x y in
             decides s r id me at k i (Tickled (name k u) false) (sym z)
             (tickle_still (name k u) false (status k u r.log) z) then (λ t. inr (x, y, t))
       ])
 
-  pub cancel_looks : (u : ℕ) → Allows IsKept slots id me k (λ n. n) (cancel_look u (step slots k 0 0 maths.none) me)
+  pub cancel_looks : (u : ℕ)
+      → Allows IsKept slots id me k (λ n. n) (cancel_look u (step slots k 0 0 maths.none) me)
   cancel_looks u s r len at small = let i = within_homes s len in
       let n : ℕ = get_or s.words k 0 in
       let p = place s r id me at k i in
@@ -237,8 +261,10 @@ module _ (slots id : ℕ) (me : M) (k : ℕ) (inside : k < slots) where
       < length s.homes) (u : ℕ) (c : SlotState) (o : Opening) → let n = get_or s.words k 0 in
       At r.log k n (home_at s r id me at k i).0 u c o
       → IsFree n → (home_at s r id me at k i).0 ≡ some (Some o) → (d : WatchEntry) → (name_of d).slot ≡ k
-      → (name_of d).number ≡ u → IsWatchAnswer d (before d r.log) → after d (status_at c o) ≡ Ended → u + 1 ≤ 2 ^ 40
-      → (new : ℕ) → new ≡ 8 * u + 4 → (items : List Shown) → entries_in items ≡ d ∷ [] → (then : ℕ → M → Type 0)
+      → (name_of d).number ≡ u → IsWatchAnswer d (before d r.log) → after d (status_at c o) ≡ Ended
+      → u + 1 ≤ 2 ^ 40
+      → (new : ℕ) → new ≡ 8 * u + 4 → (items : List Shown)
+      → entries_in items ≡ d ∷ [] → (then : ℕ → M → Type 0)
       → (Takes items k new (Some o) me (told_view r.log items (Holds k new) me.0, (k, Some o) ∷ me.1)
       → then n (told_view r.log items (Holds k new) me.0, (k, Some o) ∷ me.1)) → Out s id me k then new
   leaves s r at i u c o a f home d sl nu fits e sm new ne items one then tell =
@@ -258,7 +284,8 @@ module _ (slots id : ℕ) (me : M) (k : ℕ) (inside : k < slots) where
       ) (Some o) home then tell
 
   pub cancel_tries : (u old new : ℕ) → (old ≡ 8 * u + 2) ⊎ (old ≡ 8 * u + 3) → new ≡ 8 * u + 4
-      → Allows IsKept slots id me k (λ n. either (eqb n old) new n) (cancel_try u (step slots k old new maths.none) me)
+      → Allows IsKept slots id me k (λ n. either (eqb n old) new n)
+      (cancel_try u (step slots k old new maths.none) me)
   cancel_tries u old new oe ne s r len at small = let i = within_homes s len in
       let n : ℕ = get_or s.words k 0 in
       let p = place s r id me at k i in
@@ -266,12 +293,16 @@ module _ (slots id : ℕ) (me : M) (k : ℕ) (inside : k < slots) where
       let then : ℕ → M → Type 0 = cancel_try u (step slots k old new maths.none) me in
       exchanged n old new (Out s id me k then)
       (λ hit. ⊎_elim
-      (λ oe2. let e : n ≡ 8 * u + 2 = hit ∙ oe2 in let a = known r.log k n h p u Active e in
+      (λ oe2.
+      let e : n ≡ 8 * u + 2 = hit ∙ oe2 in
+      let a = known r.log k n h p u Active e in
       leaves s r at i u Active a.0 a.1 (λ v. (omega (arith, e), omega (arith, e))) a.1.home
       (Cancelled (name k u) true) refl refl (sym (ap is_alive a.1.now)) refl a.1.small new ne
       (Decided (Cancelled (name k u) true) ∷ []) refl then
       (λ t. inl (hit, (a.0, t))))
-      (λ oe3. let e : n ≡ 8 * u + 3 = hit ∙ oe3 in let a = known r.log k n h p u Inactive e in
+      (λ oe3.
+      let e : n ≡ 8 * u + 3 = hit ∙ oe3 in
+      let a = known r.log k n h p u Inactive e in
       leaves s r at i u Inactive a.0 a.1 (λ v. (omega (arith, e), omega (arith, e))) a.1.home
       (Cancelled (name k u) true) refl refl (sym (ap is_alive a.1.now)) refl a.1.small new ne
       (Decided (Cancelled (name k u) true) ∷ []) refl then
@@ -288,15 +319,19 @@ module _ (slots id : ℕ) (me : M) (k : ℕ) (inside : k < slots) where
       ])
 
   pub take_tries : (u old new : ℕ) → old ≡ 8 * u → u < 2 ^ 40 → new ≡ 8 * u + 1
-      → Allows IsKept slots id me k (λ n. either (eqb n old) new n) (take_try (step slots k old new maths.none) me)
+      → Allows IsKept slots id me k (λ n. either (eqb n old) new n)
+      (take_try (step slots k old new maths.none) me)
   take_tries u old new oe sm ne s r len at small = let i = within_homes s len in
       let n : ℕ = get_or s.words k 0 in
       let p = place s r id me at k i in
       let h : H = (home_at s r id me at k i).0 in
       let then : ℕ → M → Type 0 = take_try (step slots k old new maths.none) me in
       exchanged n old new (Out s id me k then)
-      (λ hit. let e : n ≡ 8 * u + 0 = omega (arith, hit, oe) in let a = known r.log k n h p u Free e in
-      takes_slot s r id me at k i [] r.legal (λ j m g off q. q) (λ v. (omega (arith, e), omega (arith, e))) new (
+      (λ hit.
+      let e : n ≡ 8 * u + 0 = omega (arith, hit, oe) in
+      let a = known r.log k n h p u Free e in
+      takes_slot s r id me at k i [] r.legal (λ j m g off q. q)
+      (λ v. (omega (arith, e), omega (arith, e))) new (
         u,
         Making,
         a.0,
@@ -317,12 +352,16 @@ module _ (slots id : ℕ) (me : M) (k : ℕ) (inside : k < slots) where
       let h : H = (home_at s r id me at k i).0 in
       let then : ℕ → M → Type 0 = age_try before u (step slots k old new maths.none) me in
       exchanged n old new (Out s id me k then)
-      (λ hit. let e : n ≡ 8 * u + 2 = hit ∙ oe in let a = known r.log k n h p u Active e in let sm = a.1.small in
+      (λ hit.
+      let e : n ≡ 8 * u + 2 = hit ∙ oe in
+      let a = known r.log k n h p u Active e in
+      let sm = a.1.small in
       turns s r id me at k i u Active a.0 a.1 (λ v. (omega (arith, e), omega (arith, e)))
       (Swept (name k u) None) refl refl (a.0, a.1.now) Inactive new ne sm refl (λ h x. x)
       (end_of before None ++ Decided (Swept (name k u) None) ∷ []) (ends_silent before None _) then
       (λ t. inl (hit, t)))
-      (λ miss. quiet s r id me at k i (end_of before None ++ Missed k old n ∷ []) (ends_silent before None _) then
+      (λ miss.
+      quiet s r id me at k i (end_of before None ++ Missed k old n ∷ []) (ends_silent before None _) then
       (λ t. inr (miss, t)))
 
   pub expires : (before : Option (List Opening)) (u old new : ℕ) → old ≡ 8 * u + 3 → new ≡ 8 * u + 4
@@ -334,31 +373,38 @@ module _ (slots id : ℕ) (me : M) (k : ℕ) (inside : k < slots) where
       let h : H = (home_at s r id me at k i).0 in
       let then : ℕ → M → Type 0 = expire_try before u (step slots k old new maths.none) me in
       exchanged n old new (Out s id me k then)
-      (λ hit. let e : n ≡ 8 * u + 3 = hit ∙ oe in let a = known r.log k n h p u Inactive e in
+      (λ hit.
+      let e : n ≡ 8 * u + 3 = hit ∙ oe in
+      let a = known r.log k n h p u Inactive e in
       leaves s r at i u Inactive a.0 a.1 (λ v. (omega (arith, e), omega (arith, e))) a.1.home
       (Swept (name k u) (Some a.0)) refl refl a.1.now refl a.1.small new ne
-      (end_of before (Some a.0) ++ Decided (Swept (name k u) (Some a.0)) ∷ []) (ends_silent before (Some a.0) _) then
+      (end_of before (Some a.0) ++ Decided (Swept (name k u) (Some a.0)) ∷ [])
+      (ends_silent before (Some a.0) _) then
       (λ t. inl (hit, (a.0, t))))
-      (λ miss. quiet s r id me at k i (end_of before None ++ Missed k old n ∷ []) (ends_silent before None _) then
+      (λ miss.
+      quiet s r id me at k i (end_of before None ++ Missed k old n ∷ []) (ends_silent before None _) then
       (λ t. inr (miss, t)))
 
   -- a store by the pass that has the slot in its hand, which makes a watch
   pub births : (u new : ℕ) (o : Opening) → me.0.hand ≡ Holds k (8 * u + 1) → me.1 ≡ (k, Some o) ∷ rest me.1
-      → new ≡ 8 * u + 2 → Allows IsKept slots id me k (λ _. new) (λ _. added (step slots k new 0 maths.none) me new)
+      → new ≡ 8 * u + 2
+      → Allows IsKept slots id me k (λ _. new) (λ _. added (step slots k new 0 maths.none) me new)
   births u new o hand out ne s r len at small = let i = within_homes s len in
       let n : ℕ = get_or s.words k 0 in
       let p = place s r id me at k i in
       let h : H = (home_at s r id me at k i).0 in
       let held = subst (HasLeft s.words) hand (r.hands id me.0 at) in
       let e : n ≡ 8 * u + 1 = some-injective n (8 * u + 1) (sym (word_at s r id me at k i) ∙ held.0) in
-      let a = known r.log k n h p u Making e in let sm = a.1.small in
+      let a = known r.log k n h p u Making e in
+      let sm = a.1.small in
       let d : WatchEntry = Added (name k u) o in
       let hs : List H = set s.homes k (some (Some o)) in
       let w : TimeView = told_view r.log (Decided d ∷ []) Idle me.0 in (
         w,
         gives,
         tt,
-        subst (λ (l : List H). IsKept record { words = set s.words k new; homes = l; views = set s.views id w })
+        subst
+            (λ (l : List H). IsKept record { words = set s.words k new; homes = l; views = set s.views id w })
             (ap (put_back s.homes) (sym out))
             (changes s r id me.0 at k new hs (Decided d ∷ []) w (
               a.1.now,
@@ -374,7 +420,8 @@ module _ (slots id : ℕ) (me : M) (k : ℕ) (inside : k < slots) where
                   (sym (some-injective (some (Some o)) g (sym (set_here s.homes k (some (Some o)) i) ∙ y))),
             ))
             (told_ends s r id me.0 at (Decided d ∷ []) Idle) (told_kept s r id me.0 at (Decided d ∷ [])) tt
-            (λ j v off y. not_at k (8 * u + 1) v.hand (subst (Apart v.hand) hand (r.apart j id v me.0 off y at)))
+            (λ j v off y.
+            not_at k (8 * u + 1) v.hand (subst (Apart v.hand) hand (r.apart j id v me.0 off y at)))
             (inr (inl refl))),
         λ u' o' is out'. let same : u ≡ u' = omega (arith, ne, is) in
             let said : o ≡ o' = same_Some o o' (ap (head_or None) (sym out ∙ out')) in (
@@ -397,12 +444,15 @@ module _ (slots id : ℕ) (me : M) (k : ℕ) (inside : k < slots) where
       let h : H = (home_at s r id me at k i).0 in
       let held = subst (HasLeft s.words) hand (r.hands id me.0 at) in
       let e : n ≡ 8 * u + 4 = some-injective n (8 * u + 4) (sym (word_at s r id me at k i) ∙ held.0) in
-      let a = known r.log k n h p u Leaving e in let sm = a.1.small in
-      let hs : List H = set s.homes k (some None) in let w : TimeView = record me.0 { hand = Idle } in (
+      let a = known r.log k n h p u Leaving e in
+      let sm = a.1.small in
+      let hs : List H = set s.homes k (some None) in
+      let w : TimeView = record me.0 { hand = Idle } in (
         w,
         gives,
         tt,
-        subst (λ (l : List H). IsKept record { words = set s.words k new; homes = l; views = set s.views id w })
+        subst
+            (λ (l : List H). IsKept record { words = set s.words k new; homes = l; views = set s.views id w })
             (ap (put_back s.homes) (sym out))
             (changes s r id me.0 at k new hs [] w r.legal (length-set s.homes k (some None))
             (λ j g off y. sym (set_else s.homes k j (some None) off) ∙ y)
@@ -415,7 +465,8 @@ module _ (slots id : ℕ) (me : M) (k : ℕ) (inside : k < slots) where
                   (sym (some-injective (some None) g (sym (set_here s.homes k (some None) i) ∙ y))),
             ))
             (r.seen id me.0 at) (λ f. omega arith) tt
-            (λ j v off y. not_at k (8 * u + 4) v.hand (subst (Apart v.hand) hand (r.apart j id v me.0 off y at)))
+            (λ j v off y.
+            not_at k (8 * u + 4) v.hand (subst (Apart v.hand) hand (r.apart j id v me.0 off y at)))
             (inr (inl refl))),
         (refl, refl),
       )
@@ -426,16 +477,19 @@ module _ (slots id : ℕ) (me : M) (k : ℕ) (inside : k < slots) where
       let p = place s r id me at k i in
       by_stage before s r at i p.0 p.1 p.2 p.3
     where
-      by_stage : (before : Option (List Opening)) (s : St) (r : IsKept s) (at : get_elem? s.views id ≡ some me.0) (i : k
+      by_stage : (before : Option (List Opening)) (s : St) (r : IsKept s)
+          (at : get_elem? s.views id ≡ some me.0) (i : k
           < length s.homes) (u : ℕ) (c : SlotState) (o : Opening)
           → At r.log k (get_or s.words k 0) (home_at s r id me at k i).0 u c o
           → Out s id me k (sweep_look before (step slots k 0 0 maths.none) me) (get_or s.words k 0)
       by_stage before s r at i u Free o a = let e = a.word in
-          quiet s r id me at k i (end_of before None ++ Passed k (get_or s.words k 0) ∷ []) (ends_silent before None _)
+          quiet s r id me at k i
+          (end_of before None ++ Passed k (get_or s.words k 0) ∷ []) (ends_silent before None _)
           (sweep_look before (step slots k 0 0 maths.none) me)
           (λ t. inr ((λ v. ((λ z. omega (arith, e, z)), (λ z. omega (arith, e, z)))), t))
       by_stage before s r at i u Making o a = let e = a.word in
-          quiet s r id me at k i (end_of before None ++ Passed k (get_or s.words k 0) ∷ []) (ends_silent before None _)
+          quiet s r id me at k i
+          (end_of before None ++ Passed k (get_or s.words k 0) ∷ []) (ends_silent before None _)
           (sweep_look before (step slots k 0 0 maths.none) me)
           (λ t. inr ((λ v. ((λ z. omega (arith, e, z)), (λ z. omega (arith, e, z)))), t))
       by_stage before s r at i u Active o a = let sm = a.small in
@@ -445,6 +499,7 @@ module _ (slots id : ℕ) (me : M) (k : ℕ) (inside : k < slots) where
           quiet s r id me at k i [] refl (sweep_look before (step slots k 0 0 maths.none) me)
           (λ t. inl ((u, omega (arith, sm), inr a.word), t))
       by_stage before s r at i u Leaving o a = let e = a.word in
-          quiet s r id me at k i (end_of before None ++ Passed k (get_or s.words k 0) ∷ []) (ends_silent before None _)
+          quiet s r id me at k i
+          (end_of before None ++ Passed k (get_or s.words k 0) ∷ []) (ends_silent before None _)
           (sweep_look before (step slots k 0 0 maths.none) me)
           (λ t. inr ((λ v. ((λ z. omega (arith, e, z)), (λ z. omega (arith, e, z)))), t))

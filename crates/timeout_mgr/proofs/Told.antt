@@ -1,5 +1,6 @@
 -- What the calls say, from what their steps told.
-use Rattle.std.proofs.Common.{◌≡◌, ◌≢◌, ℕ, suc, ◌+◌, ◌*◌, ◌%◌, ◌^◌, ◌<◌, ◌≤◌, length, ◌⊎◌, inl, inr, ⊎_elim, List, [], ◌∷◌, ◌++◌, true, false, refl, sym, ap, ◌∙◌, subst, eq-eqb, arith}
+use Rattle.std.proofs.Common.{◌≡◌, ◌≢◌, ℕ, suc, ◌+◌, ◌*◌, ◌%◌, ◌^◌, ◌<◌, ◌≤◌, length, ◌⊎◌, inl, inr, ⊎_elim}
+use Rattle.std.proofs.Common.{List, [], ◌∷◌, ◌++◌, true, false, refl, sym, ap, ◌∙◌, subst, eq-eqb, arith}
 use Rattle.std.specs.Prelude.{Option, Some, None, ◌==◌, if◌then◌else◌}
 use Rattle.std.proofs.lemmas.Bool.{ne_eqb}
 use Rattle.std.proofs.lemmas.List.{append_assoc, append-nil, length-append}
@@ -16,11 +17,13 @@ use Rattle.timeout_mgr.specs.declared.view.TimeView.{TimeView}
 use Rattle.timeout_mgr.specs.Watches.{WatchLog}
 use Rattle.timeout_mgr.specs.Rule.{Tells}
 use Rattle.timeout_mgr.specs.Passes.{entries_in, IsPastOf, IsSound}
-use Rattle.timeout_mgr.specs.Plays.{M, name, Takes, tickle_look, tickle_try, cancel_look, cancel_try, take_try, end_of, age_try, expire_try, sweep_look}
+use Rattle.timeout_mgr.specs.Plays.{M, name, Takes, tickle_look, tickle_try, cancel_look, cancel_try}
+use Rattle.timeout_mgr.specs.Plays.{take_try, end_of, age_try, expire_try, sweep_look}
 use Rattle.timeout_mgr.specs.declared.view.TimeCall.{TimeCall}
 use Rattle.timeout_mgr.specs.declared.view.TimeCall.TheVariants.{Sweep}
 use Rattle.timeout_mgr.specs.Passes.{calls_in, calls_of, call_of, decided_call}
-use Rattle.timeout_mgr.specs.Calls.{GoesOn, Decides, DecidesNothing, AreTaken, IsTakenAt, slot_at, SweptSlot, HasSwept, IsRound, list_of}
+use Rattle.timeout_mgr.specs.Calls.{GoesOn, Decides, DecidesNothing, AreTaken, IsTakenAt, slot_at, SweptSlot}
+use Rattle.timeout_mgr.specs.Calls.{HasSwept, IsRound, list_of}
 use Rattle.timeout_mgr.specs.OneSlot.{Stays, ShowsAll, SweepsAt, Answers}
 use Rattle.timeout_mgr.proofs.Keeps.{entries_append, calls_append}
 
@@ -35,7 +38,8 @@ goes_told items hd v w t =
       );
     }
 
-pub stays_told : (items : List Shown) (hd : Holding) (v w : TimeView) → entries_in items ≡ [] → calls_in items ≡ []
+pub stays_told : (items : List Shown) (hd : Holding) (v w : TimeView)
+    → entries_in items ≡ [] → calls_in items ≡ []
     → Tells items hd v w → Stays items v w
 stays_told items hd v w none ends t = record { goes = goes_told items hd v w t; entry = none; call = ends }
 
@@ -59,7 +63,8 @@ goes_on a b v u w x y = record {
   onward = (
     y.onward.0 ++ x.onward.0,
     y.onward.1
-        ∙ (ap (λ (l : WatchLog). y.onward.0 ++ l) x.onward.1 ∙ sym (append_assoc y.onward.0 x.onward.0 v.seen)),
+        ∙ (ap (λ (l : WatchLog). y.onward.0 ++ l) x.onward.1
+        ∙ sym (append_assoc y.onward.0 x.onward.0 v.seen)),
   );
 }
 
@@ -82,9 +87,11 @@ stays_on a b v u w x y =
 pub same_calls : (items : List Shown) (v w : TimeView) → GoesOn items v w → calls_in items ≡ []
     → calls_of w ≡ calls_of v
 same_calls items v w g none = ap calls_in g.kept
-    ∙ (calls_append items v.kept ∙ (ap (λ (l : List TimeCall). calls_of v ++ l) none ∙ append-nil (calls_of v)))
+    ∙ (calls_append items v.kept
+    ∙ (ap (λ (l : List TimeCall). calls_of v ++ l) none ∙ append-nil (calls_of v)))
 
-pub then_decides : (a : List Shown) (d : WatchEntry) (v u w : TimeView) → Stays a v u → Decides d u w → Decides d v w
+pub then_decides : (a : List Shown) (d : WatchEntry) (v u w : TimeView) → Stays a v u
+    → Decides d u w → Decides d v w
 then_decides a d v u w x y = record {
   items = y.items ++ a;
   goes = goes_on a y.items v u w x.goes y.goes;
@@ -117,7 +124,8 @@ then_answers c items v u w x a = record {
 }
 
 -- a pass that lets its slot go knows what it knew
-pub freed_decides : (d : WatchEntry) (v u w : TimeView) → Decides d v u → w ≡ record u { hand = Idle } → Decides d v w
+pub freed_decides : (d : WatchEntry) (v u w : TimeView) → Decides d v u → w ≡ record u { hand = Idle }
+    → Decides d v w
 freed_decides d v u w x e = subst (Decides d v) (sym e) (record {
   items = x.items;
   goes = record { kept = x.goes.kept; onward = x.goes.onward };
@@ -138,7 +146,8 @@ module _ (u w k : ℕ) (m : M) (n : ℕ) (m' : M) (is : u ≡ w) where
   pub look_active : tickle_look u (step 0 k 0 0 maths.none) m n m' → n ≡ 8 * w + 2
       → Decides (Tickled (name k w) true) m.0 m'.0
   look_active t e =
-      ⊎_elim (λ x. decided (Tickled (name k w) true) m.0.hand m.0 m'.0 x.1.0) (λ y. ⊎_elim (λ x. let z = x.0 in
+      ⊎_elim (λ x. decided (Tickled (name k w) true) m.0.hand m.0 m'.0 x.1.0) (λ y. ⊎_elim (λ x. let z =
+      x.0 in
       absurd (omega (arith, e, z))) (λ x. absurd (x.0 e)) y) (subst look is t)
 
   pub look_gone : tickle_look u (step 0 k 0 0 maths.none) m n m' → n ≢ 8 * w + 2 → n ≢ 8 * w + 3
@@ -151,7 +160,8 @@ module _ (u w k : ℕ) (m : M) (n : ℕ) (m' : M) (is : u ≡ w) where
   pub look_inactive : tickle_look u (step 0 k 0 0 maths.none) m n m' → n ≡ 8 * w + 3 → Stays [] m.0 m'.0
   look_inactive t e = ⊎_elim (λ x. let z = x.0 in
       absurd (omega (arith, e, z)))
-      (λ y. ⊎_elim (λ x. stays_told [] m.0.hand m.0 m'.0 refl refl x.1.0) (λ x. absurd (x.1 e)) y) (subst look is t)
+      (λ y. ⊎_elim (λ x. stays_told [] m.0.hand m.0 m'.0 refl refl x.1.0) (λ x. absurd (x.1 e)) y)
+      (subst look is t)
 
   pub try_alive : tickle_try u (step 0 k 0 0 maths.none) m n m' → (n ≡ 8 * w + 3) ⊎ (n ≡ 8 * w + 2)
       → Decides (Tickled (name k w) true) m.0 m'.0
@@ -169,13 +179,15 @@ module _ (u w k old new : ℕ) (m : M) (n : ℕ) (m' : M) (is : u ≡ w) where
   abbrev leave : ℕ → Type 0
   leave x = cancel_try x (step 0 k old new maths.none) m n m'
 
-  pub left_hit : cancel_try u (step 0 k old new maths.none) m n m' → n ≡ old → (old ≡ 8 * w + 2) ⊎ (old ≡ 8 * w + 3)
+  pub left_hit : cancel_try u (step 0 k old new maths.none) m n m' → n ≡ old
+      → (old ≡ 8 * w + 2) ⊎ (old ≡ 8 * w + 3)
       → (o : Opening) × Takes (Decided (Cancelled (name k w) true) ∷ []) k new (Some o) m m'
   left_hit t e l =
       ⊎_elim (λ x. x.1) (λ y. ⊎_elim (λ x. absurd (x.0 e))
       (λ x. absurd (⊎_elim (λ z. x.0 (e ∙ z)) (λ z. x.1 (e ∙ z)) l)) y) (subst leave is t)
 
-  pub left_lives : cancel_try u (step 0 k old new maths.none) m n m' → n ≢ old → (n ≡ 8 * w + 2) ⊎ (n ≡ 8 * w + 3)
+  pub left_lives : cancel_try u (step 0 k old new maths.none) m n m' → n ≢ old
+      → (n ≡ 8 * w + 2) ⊎ (n ≡ 8 * w + 3)
       → Stays (Tried k old n ∷ []) m.0 m'.0
   left_lives t e l =
       ⊎_elim (λ x. absurd (e x.0))
@@ -196,7 +208,8 @@ module _ (u w k : ℕ) (m : M) (n : ℕ) (m' : M) (is : u ≡ w) where
   pub ask_gone : cancel_look u (step 0 k 0 0 maths.none) m n m' → n ≢ 8 * w + 2 → n ≢ 8 * w + 3
       → Decides (Cancelled (name k w) false) m.0 m'.0
   ask_gone t a b =
-      ⊎_elim (λ x. absurd (⊎_elim a b x.0)) (λ x. decided (Cancelled (name k w) false) m.0.hand m.0 m'.0 x.2.0)
+      ⊎_elim (λ x. absurd (⊎_elim a b x.0))
+      (λ x. decided (Cancelled (name k w) false) m.0.hand m.0 m'.0 x.2.0)
       (subst asks is t)
 
   pub ask_lives : cancel_look u (step 0 k 0 0 maths.none) m n m' → (n ≡ 8 * w + 2) ⊎ (n ≡ 8 * w + 3)
@@ -213,10 +226,12 @@ module _ (k old new : ℕ) (m : M) (n : ℕ) (m' : M) where
   took t e = ⊎_elim (λ x. x.1) (λ x. absurd (x.0 e)) t
 
   pub missed : take_try (step 0 k old new maths.none) m n m' → n ≢ old → Stays (Saw k n ∷ []) m.0 m'.0
-  missed t e = ⊎_elim (λ x. absurd (e x.0)) (λ x. stays_told (Saw k n ∷ []) m.0.hand m.0 m'.0 refl refl x.1.0) t
+  missed t e =
+      ⊎_elim (λ x. absurd (e x.0)) (λ x. stays_told (Saw k n ∷ []) m.0.hand m.0 m'.0 refl refl x.1.0) t
 
 -- what was told of a pass that a plain access left as it was
-pub told_same : (items : List Shown) (hd : Holding) (u v w : TimeView) → u ≡ v → Tells items hd u w → Tells items hd v w
+pub told_same : (items : List Shown) (hd : Holding) (u v w : TimeView) → u ≡ v
+    → Tells items hd u w → Tells items hd v w
 told_same items hd u v w e = subst (λ (x : TimeView). Tells items hd x w) e
 
 ends_here : (v : TimeView) → IsPastOf v.seen v.seen
@@ -229,7 +244,8 @@ pub none_taken : (first : ℕ) → AreTaken first 0 []
 unfolding AreTaken
 none_taken first = refl
 
-taken_suc : (first k : ℕ) (older newer : List Shown) → AreTaken first k older → IsTakenAt (slot_at ((first + k) % 4096)) newer
+taken_suc : (first k : ℕ) (older newer : List Shown) → AreTaken first k older
+    → IsTakenAt (slot_at ((first + k) % 4096)) newer
     → AreTaken first (suc k) (newer ++ older)
 unfolding AreTaken
 taken_suc first k older newer a t = (newer, older, refl, a, t)
@@ -286,10 +302,12 @@ module _ (before : Option (List Opening)) (u k old : ℕ) (m : M) (n : ℕ) (m' 
 
 module _ (before : Option (List Opening)) (u k old new : ℕ) (m : M) (n : ℕ) (m' : M) where
   pub exp_hit : expire_try before u (step 0 k old new maths.none) m n m' → n ≡ old
-      → (o : Opening) × Takes (end_of before (Some o) ++ Decided (Swept (name k u) (Some o)) ∷ []) k new (Some o) m m'
+      → (o : Opening)
+      × Takes (end_of before (Some o) ++ Decided (Swept (name k u) (Some o)) ∷ []) k new (Some o) m m'
   exp_hit t e = ⊎_elim (λ x. x.1) (λ x. absurd (x.0 e)) t
 
-  pub exp_miss : expire_try before u (step 0 k old new maths.none) m n m' → n ≢ old → SweepsAt k before m.0 None m'.0
+  pub exp_miss : expire_try before u (step 0 k old new maths.none) m n m' → n ≢ old
+      → SweepsAt k before m.0 None m'.0
   exp_miss t e =
       ⊎_elim (λ x. absurd (e x.0)) (λ x. (
         Missed k old n,
@@ -298,7 +316,8 @@ module _ (before : Option (List Opening)) (u k old new : ℕ) (m : M) (n : ℕ) 
       )) t
 
 -- the slot is free again whose opening was given
-pub gave : (before : Option (List Opening)) (u k : ℕ) (o : Opening) (given : Option Opening) (v x w : TimeView)
+pub gave : (before : Option (List Opening)) (u k : ℕ) (o : Opening) (given : Option Opening)
+    (v x w : TimeView)
     → given ≡ Some o → ShowsAll (end_of before (Some o) ++ Decided (Swept (name k u) (Some o)) ∷ []) v x
     → w ≡ record x { hand = Idle } → SweepsAt k before v given w
 gave before u k o given v x w e s f = let item : Shown = Decided (Swept (name k u) (Some o)) in (
@@ -309,7 +328,8 @@ gave before u k o given v x w e s f = let item : Shown = Decided (Swept (name k 
 )
 
 module _ (before : Option (List Opening)) (k : ℕ) (m : M) (n : ℕ) (m' : M) where
-  pub look_live : sweep_look before (step 0 k 0 0 maths.none) m n m' → (u : ℕ) → (n ≡ 8 * u + 2) ⊎ (n ≡ 8 * u + 3)
+  pub look_live : sweep_look before (step 0 k 0 0 maths.none) m n m' → (u : ℕ)
+      → (n ≡ 8 * u + 2) ⊎ (n ≡ 8 * u + 3)
       → Stays [] m.0 m'.0 × (u < 2 ^ 40)
   look_live t u e = ⊎_elim (λ x. let lt = x.0.1 in (
     stays_told [] m.0.hand m.0 m'.0 refl refl x.1.0,
@@ -320,7 +340,8 @@ module _ (before : Option (List Opening)) (k : ℕ) (m : M) (n : ℕ) (m' : M) w
 
   pub look_dead : sweep_look before (step 0 k 0 0 maths.none) m n m' → n % 8 ≢ 2 → n % 8 ≢ 3
       → SweepsAt k before m.0 None m'.0
-  look_dead t a b = ⊎_elim (λ x. absurd (⊎_elim (λ e. a (omega (arith, e))) (λ e. b (omega (arith, e))) x.0.2))
+  look_dead t a b =
+      ⊎_elim (λ x. absurd (⊎_elim (λ e. a (omega (arith, e))) (λ e. b (omega (arith, e))) x.0.2))
       (λ x. (
         Passed k n,
         inr (inr (inl (n, x.0, refl, refl))),
@@ -335,7 +356,8 @@ pub same_value : (k : ℕ) (l xs ys : List (ℕ × Option Opening)) (a b : Optio
     → l ≡ (k, b) ∷ ys → a ≡ b
 same_value k l xs ys a b e f = ap (value_of None) (sym e ∙ f)
 
-pub then_sweeps : (k : ℕ) (before : Option (List Opening)) (given : Option Opening) (v u w : TimeView) → Stays [] v u
+pub then_sweeps : (k : ℕ) (before : Option (List Opening)) (given : Option Opening) (v u w : TimeView)
+    → Stays [] v u
     → SweepsAt k before u given w → SweepsAt k before v given w
 then_sweeps k before given v u w s t = (t.0, t.1, then_all (end_of before given ++ t.0 ∷ []) v u w s t.2)
 
@@ -363,7 +385,7 @@ ends_none k given item t =
     ⊎_elim (λ x. ap call_of x.1)
     (λ y. ⊎_elim (λ x. ap call_of x.2) (λ z. ⊎_elim (λ x. ap call_of x.2) (λ x. ap call_of x.3) z) y) t
 
--- so far a sweep went through so many slots, gave these openings, and didn't end
+-- so far a sweep went through this many slots, gave these openings, and didn't end
 abbrev pub Rounds : TimeView → ℕ → List Opening → TimeView → Type 0
 Rounds v k out w = (items : List Shown) × GoesOn items v w × IsRound k items out × (calls_in items ≡ [])
 
@@ -388,8 +410,10 @@ few_more k out next given e few = let a = ap length e in
     at_most None = omega arith
     at_most (Some o) = omega arith
 
-pub swept_more : (k : ℕ) (out next : List Opening) (given : Option Opening) (v0 v w : TimeView) → Rounds v0 k out v
-    → SweepsAt k (before_at k out) v given w → next ≡ out ++ list_of given → k + 1 < 4096 → Rounds v0 (k + 1) next w
+pub swept_more : (k : ℕ) (out next : List Opening) (given : Option Opening) (v0 v w : TimeView)
+    → Rounds v0 k out v
+    → SweepsAt k (before_at k out) v given w → next ≡ out ++ list_of given → k + 1 < 4096
+    → Rounds v0 (k + 1) next w
 swept_more k out next given v0 v w r t e h = let off : k ≢ 4095 = λ z. omega (arith, z, h) in
     let s = subst (λ b. SweepsAt k b v given w) (goes_at k out off) t in (
       s.0 ∷ r.0,
@@ -412,7 +436,8 @@ ended_here c items v w g none = ap calls_in g.kept
     ∙ ap (λ (l : List TimeCall). l ++ c ∷ []) (calls_append items v.kept
     ∙ (ap (λ (l : List TimeCall). calls_of v ++ l) none ∙ append-nil (calls_of v)))
 
-pub swept_last : (k : ℕ) (out next : List Opening) (given : Option Opening) (v0 v w : TimeView) → Rounds v0 k out v
+pub swept_last : (k : ℕ) (out next : List Opening) (given : Option Opening) (v0 v w : TimeView)
+    → Rounds v0 k out v
     → SweepsAt k (before_at k out) v given w → next ≡ out ++ list_of given → k ≡ 4095 → HasSwept v0 next w
 swept_last k out next given v0 v w r t e h =
     let s = subst (λ b. SweepsAt k b v given w) (ends_at k out h) t in

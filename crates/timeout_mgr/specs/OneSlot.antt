@@ -33,7 +33,8 @@ abbrev pub AddsAt : ℕ → Opening → TimeView → Option Watch → TimeView �
 AddsAt k o v (Some x) w = Decides (Added (name_of_watch x) o) v w
 AddsAt k o v None w = (items : List Shown) × Stays items v w × IsTakenAt k items
 
--- A step that showed these items. What it decided, if anything, is the newest of a history in which every entry has its answer
+-- A step that showed these items. What it decided, if anything, is the newest of a history in
+-- which every entry has its answer
 pub record ShowsAll (items : List Shown) (v w : TimeView) : Type 0 where
   pub goes : GoesOn items v w
   pub later : WatchLog

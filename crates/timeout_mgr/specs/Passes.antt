@@ -1,4 +1,5 @@
--- To be believed: what a pass knows of the history, and what it did: its calls with their answers, the entries that it made, and what its steps showed.
+-- To be believed: what a pass knows of the history, and what it did: its calls with their answers, the
+-- entries that it made, and what its steps showed.
 use Rattle.std.specs.Prelude.{◌≡◌, ℕ, ◌≤◌, List, [], ◌∷◌, ◌++◌, Bool, true, false}
 use Rattle.reg_keys.specs.declared.Opening.{Opening}
 use Rattle.reg_keys.specs.Tests.{total}
@@ -79,7 +80,8 @@ given_in (c ∷ calls) = given_by c ++ given_in calls
 abbrev pub IsPastOf : WatchLog → WatchLog → Type 0
 IsPastOf seen log = (later : WatchLog) × (log ≡ later ++ seen)
 
--- What the pass has seen is a history in which every entry has its answer, and it has all entries that the pass made itself: whatever they weigh, they weigh no more than the history
+-- What the pass has seen is a history in which every entry has its answer, and it has all entries that the
+-- pass made itself: whatever they weigh, they weigh no more than the history
 pub record IsSound (v : TimeView) : Type 0 where
   pub legal : IsWatchHistory v.seen
   pub own : (f : WatchEntry → ℕ) → total f (own_entries v) ≤ total f v.seen

@@ -24,7 +24,8 @@ ends slot number (Cancelled x true) = one_if (is_of slot number x)
 ends slot number (Swept x None) = 0
 ends slot number (Swept x (Some o)) = one_if (is_of slot number x)
 
--- each watch is added at most once, and ends at most once, by a cancel or by a sweep that gives it: so no watch is given twice
+-- each watch is added at most once, and ends at most once, by a cancel or by a sweep that gives
+-- it: so no watch is given twice
 pub record EndsOnce (log : WatchLog) : Type 0 where
   pub added : (slot number : ℕ) → total (adds slot number) log ≤ 1
   pub ended : (slot number : ℕ) → total (ends slot number) log ≤ total (adds slot number) log
@@ -49,7 +50,8 @@ pub record WasUnborn (slot number : ℕ) (past : WatchLog) : Type 0 where
   pub none : total (adds slot number) past ≡ 0
   pub gone : All IsGone (watch_entries slot number past)
 
--- behind the end of a watch it has ended for good, and every tickle and cancel is answered that it doesn't live
+-- after the end of a watch it has ended for good, and every tickle and cancel is
+-- answered that it doesn't live
 pub record StaysEnded (slot number : ℕ) (later past : WatchLog) : Type 0 where
   pub ended : status slot number (later ++ past) ≡ Ended
   pub gone : All IsGone (watch_entries slot number later)

@@ -1,5 +1,7 @@
--- Inner: the rule of the table, which holds between any two steps of any threads, and what a step tells its pass.
-use Rattle.std.specs.Prelude.{◌≡◌, ◌≢◌, ℕ, ◌+◌, ◌*◌, ◌^◌, ◌<◌, ◌≤◌, ◌⊎◌, List, [], ◌++◌, length, true, false, Option, Some, None}
+-- Inner: the rule of the table, which holds between any two steps of any threads, and
+-- what a step tells its pass.
+use Rattle.std.specs.Prelude.{◌≡◌, ◌≢◌, ℕ, ◌+◌, ◌*◌, ◌^◌, ◌<◌, ◌≤◌, ◌⊎◌, List, [], ◌++◌, length, true, false}
+use Rattle.std.specs.Prelude.{Option, Some, None}
 use mathlib.Core.Option as maths
 use lib.ListN.{get_elem?}
 use Rattle.atomic_table.specs.Table.{State, Me}
@@ -40,7 +42,8 @@ Home Active o h = h ≡ maths.some (Some o)
 Home Inactive o h = h ≡ maths.some (Some o)
 Home Leaving o h = Unit {0}
 
--- The slot k, whose word is n, is at its use u, in the state c, for the opening o: the watches of earlier uses have ended, those of later ones are no one's yet, and the slot holds what its state calls for
+-- The slot k, whose word is n, is at its use u, in the state c, for the opening o: the watches of earlier
+-- uses have ended, those of later ones are no one's yet, and the slot holds what its state calls for
 pub record At (log : WatchLog) (k n : ℕ) (h : maths.Option (Option Opening)) (u : ℕ) (c : SlotState)
     (o : Opening) : Type 0 where
   pub word : n ≡ 8 * u + code_of c
@@ -64,14 +67,17 @@ abbrev pub Apart : Holding → Holding → Type 0
 Apart (Holds k n) (Holds j m) = k ≢ j
 Apart a b = Unit {0}
 
--- The rule: there is one history, in which every entry has its answer. Each slot is at a use of its own by it, and each pass has seen a past of it. A slot in a pass's hand has the word that the pass left there. Whatever the entries weigh, those that the passes made weigh as much together as the history
+-- The rule: there is one history, in which every entry has its answer. Each slot is at a use of its own by
+-- it, and each pass has seen a past of it. A slot in a pass's hand has the word that the pass left there.
+-- Whatever the entries weigh, those that the passes made weigh as much together as the history
 pub record IsKept (s : State (Option Opening) TimeView) : Type 0 where
   pub log : WatchLog
   pub legal : IsWatchHistory log
   pub long : length s.words ≡ length s.homes
   pub places : (k n : ℕ) (h : maths.Option (Option Opening)) → get_elem? s.words k ≡ maths.some n
       → get_elem? s.homes k ≡ maths.some h → IsPlace log k n h
-  pub seen : (j : ℕ) (v : TimeView) → get_elem? s.views j ≡ maths.some v → IsPastOf v.seen log × IsPastOf v.told log
+  pub seen : (j : ℕ) (v : TimeView) → get_elem? s.views j ≡ maths.some v
+      → IsPastOf v.seen log × IsPastOf v.told log
   pub hands : (j : ℕ) (v : TimeView) → get_elem? s.views j ≡ maths.some v → HasLeft s.words v.hand
   pub apart : (i j : ℕ) (v w : TimeView) → i ≢ j → get_elem? s.views i ≡ maths.some v
       → get_elem? s.views j ≡ maths.some w → Apart v.hand w.hand
@@ -81,7 +87,8 @@ pub record IsKept (s : State (Option Opening) TimeView) : Type 0 where
 abbrev pub both_of : TimeView → TimeView → TimeView
 both_of v w = record { seen = v.seen; told = w.seen; kept = v.kept ++ w.kept; hand = v.hand }
 
--- What a step tells that showed these items: the history as it then is, what it goes on from, and that the pass's own entries are in it
+-- What a step tells that showed these items: the history as it then is, what it goes on from, and that
+-- the pass's own entries are in it
 pub record Tells (items : List Shown) (hand : Holding) (v w : TimeView) : Type 0 where
   pub later : WatchLog
   pub seen : w.seen ≡ entries_in items ++ (later ++ v.seen)

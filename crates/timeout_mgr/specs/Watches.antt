@@ -1,4 +1,5 @@
--- To be believed: the history of all watches, what it says of each, and the one answer that each entry of it must have. It knows no word of a table.
+-- To be believed: the history of all watches, what it says of each, and the one answer that each entry of it
+-- must have. It knows no word of a table.
 use Rattle.std.specs.Prelude.{◌≡◌, ℕ, ◌&&◌, ◌==◌, List, [], ◌∷◌, Bool, true, false, if◌then◌else◌, Some, None}
 use Rattle.reg_keys.specs.declared.Opening.{Opening}
 use Rattle.timeout_mgr.specs.declared.view.WatchName.{WatchName}
@@ -24,9 +25,11 @@ is_of slot number x = (x.slot == slot) && (x.number == number)
 abbrev pub watch_entries : ℕ → ℕ → WatchLog → List WatchEntry
 watch_entries slot number [] = []
 watch_entries slot number (d ∷ past) =
-    (if is_of slot number (name_of d) then d ∷ watch_entries slot number past else watch_entries slot number past)
+    (if is_of slot number (name_of d) then d ∷ watch_entries slot number past
+    else watch_entries slot number past)
 
--- how it stands with a watch: it is no one's yet, or it lives, for an opening, and its last entry is a sweep or isn't, or it has ended
+-- how it stands with a watch: it is no one's yet, or it lives, for an opening, and its last entry is a
+-- sweep or isn't, or it has ended
 pub data Status : Type 0 where
   Unborn : Status
   Lives : Opening → Bool → Status
@@ -38,7 +41,8 @@ is_alive Unborn = false
 is_alive (Lives o swept_last) = true
 is_alive Ended = false
 
--- how it stands with a watch behind an entry of it: it lives from its add to its cancel or to the sweep that gives it, which is the one that finds a sweep as the last entry
+-- how it stands with a watch after an entry of it: it lives from its add to its cancel or to the sweep that
+-- gives it, which is the one that finds a sweep as the last entry
 abbrev pub after : WatchEntry → Status → Status
 after (Added x o) s = Lives o false
 after (Tickled x alive) (Lives o swept_last) = Lives o false
@@ -54,15 +58,17 @@ abbrev pub status_after : List WatchEntry → Status
 status_after [] = Unborn
 status_after (d ∷ past) = after d (status_after past)
 
--- how it stands with the watch of this slot and this number behind a history
+-- how it stands with the watch of this slot and this number after a history
 abbrev pub status : ℕ → ℕ → WatchLog → Status
 status slot number log = status_after (watch_entries slot number log)
 
--- how it stands, behind a history, with the watch that an entry is of
+-- how it stands, after a history, with the watch that an entry is of
 abbrev pub before : WatchEntry → WatchLog → Status
 before d past = status (name_of d).slot (name_of d).number past
 
--- The answer of an entry is the one that its watch calls for, as it stands with it before: only a watch that is no one's is added, a tickle and a cancel answer whether it lives, and a sweep gives its opening exactly where its last entry is a sweep
+-- The answer of an entry is the one that its watch calls for, as it stands with it before: only a watch that
+-- is no one's is added, a tickle and a cancel answer whether it lives, and a sweep gives its opening exactly
+-- where its last entry is a sweep
 abbrev pub IsWatchAnswer : WatchEntry → Status → Type 0
 IsWatchAnswer (Added x o) s = s ≡ Unborn
 IsWatchAnswer (Tickled x alive) s = alive ≡ is_alive s

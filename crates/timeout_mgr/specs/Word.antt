@@ -1,4 +1,5 @@
--- Inner: how a slot's word is packed into one number, which the rule over the table and the private steps speak of.
+-- Inner: how a slot's word is packed into one number, which the rule over the table and
+-- the private steps speak of.
 use Rattle.std.specs.Prelude.{ℕ, ◌+◌, ◌*◌, ◌/◌, ◌%◌, zero, suc}
 use Rattle.timeout_mgr.specs.declared.word.SlotState.{SlotState}
 use Rattle.timeout_mgr.specs.declared.word.SlotState.TheVariants.{Free, Making, Active, Inactive, Leaving}

@@ -9,17 +9,24 @@
 //! where a sweep was the last that came by, and each answer is the one that the history calls for.
 #![tactic(auto)]
 
-mod expired;
-mod laws;
+// Bounds, watches, and what is known of them.
 mod limits;
+mod view;
+mod watch;
+
+// The rule of the words, and what each step does by it.
 mod one_slot;
 mod plays;
 mod round;
 mod rule;
-mod timeouts;
-mod view;
-mod watch;
 mod word;
+
+// The table and its calls.
+mod expired;
+mod timeouts;
+
+// Laws of histories.
+mod laws;
 
 pub use expired::Expired;
 pub use laws::{

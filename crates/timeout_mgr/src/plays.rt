@@ -40,28 +40,28 @@ impl Ending for Brand {
     ghost before = { None };
 }
 
-// A load by an add.
+/// A load by an add.
 pub(crate) struct Saw;
 
 impl Play<Option<Opening>, TimeView> for Saw {
     ghost then = { saw };
 }
 
-// An exchange from free to making.
+/// An exchange from free to making.
 pub(crate) struct Take;
 
 impl Play<Option<Opening>, TimeView> for Take {
     ghost then = { take_try };
 }
 
-// A store: the watch is there.
+/// A store: the watch is there.
 pub(crate) struct Birth;
 
 impl Play<Option<Opening>, TimeView> for Birth {
     ghost then = { added };
 }
 
-// A load by a tickle.
+/// A load by a tickle.
 pub(crate) struct TickleLook<N> {
     marker: PhantomData<N>,
 }
@@ -70,7 +70,7 @@ impl<N: Numbered> Play<Option<Opening>, TimeView> for TickleLook<N> {
     ghost then = { tickle_look N.number };
 }
 
-// An exchange from inactive to active.
+/// An exchange from inactive to active.
 pub(crate) struct TickleTry<N> {
     marker: PhantomData<N>,
 }
@@ -79,7 +79,7 @@ impl<N: Numbered> Play<Option<Opening>, TimeView> for TickleTry<N> {
     ghost then = { tickle_try N.number };
 }
 
-// A load by a cancel.
+/// A load by a cancel.
 pub(crate) struct CancelLook<N> {
     marker: PhantomData<N>,
 }
@@ -88,7 +88,7 @@ impl<N: Numbered> Play<Option<Opening>, TimeView> for CancelLook<N> {
     ghost then = { cancel_look N.number };
 }
 
-// An exchange to leaving.
+/// An exchange to leaving.
 pub(crate) struct CancelTry<N> {
     marker: PhantomData<N>,
 }
@@ -97,7 +97,7 @@ impl<N: Numbered> Play<Option<Opening>, TimeView> for CancelTry<N> {
     ghost then = { cancel_try N.number };
 }
 
-// A load by a sweep.
+/// A load by a sweep.
 pub(crate) struct SweepLook<E> {
     marker: PhantomData<E>,
 }
@@ -106,7 +106,7 @@ impl<E: Ending> Play<Option<Opening>, TimeView> for SweepLook<E> {
     ghost then = { sweep_look E.before };
 }
 
-// An exchange by a sweep from active to inactive.
+/// An exchange by a sweep from active to inactive.
 pub(crate) struct Age<E, N> {
     ending: PhantomData<E>,
     number: PhantomData<N>,
@@ -116,7 +116,7 @@ impl<E: Ending, N: Numbered> Play<Option<Opening>, TimeView> for Age<E, N> {
     ghost then = { age_try E.before N.number };
 }
 
-// An exchange by a sweep from inactive to leaving.
+/// An exchange by a sweep from inactive to leaving.
 pub(crate) struct Expire<E, N> {
     ending: PhantomData<E>,
     number: PhantomData<N>,
@@ -126,21 +126,21 @@ impl<E: Ending, N: Numbered> Play<Option<Opening>, TimeView> for Expire<E, N> {
     ghost then = { expire_try E.before N.number };
 }
 
-// A store: the slot is free for its next use.
+/// A store: the slot is free for its next use.
 pub(crate) struct Release;
 
 impl Play<Option<Opening>, TimeView> for Release {
     ghost then = { freed };
 }
 
-// A load behind a join.
+/// A load after a join.
 pub(crate) struct Compare;
 
 impl Play<Option<Opening>, TimeView> for Compare {
     ghost then = { joined_look };
 }
 
-// A load that ends a call whose answer no single step decided.
+/// A load that ends a call whose answer no single step decided.
 pub(crate) struct Answer<C> {
     marker: PhantomData<C>,
 }
@@ -149,7 +149,7 @@ impl<C: Answering> Play<Option<Opening>, TimeView> for Answer<C> {
     ghost then = { answers C.call };
 }
 
-// A pass is split: the new one has done nothing, and has seen as much.
+/// A pass is split: the new one has done nothing, and has seen as much.
 pub(crate) struct Cut;
 
 impl Split<TimeView> for Cut {
@@ -158,7 +158,7 @@ impl Split<TimeView> for Cut {
     ghost right = { λ v. record first_view { seen = v.seen } };
 }
 
-// A pass takes in another.
+/// A pass takes in another.
 pub(crate) struct Both;
 
 impl Join<TimeView> for Both {

@@ -1,8 +1,4 @@
-pub mod Weights
-pub mod Classes
-pub mod Seats
 pub mod Entries
-pub mod Passes
 pub mod Joins
 mod Keeps
 mod Splits

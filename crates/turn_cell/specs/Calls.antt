@@ -39,7 +39,8 @@ module _ {E : Type 0} where
   abbrev pub CountsAhead : View E → ℕ → Type 0
   CountsAhead v n = (log : Log E) × Ahead v.classes v.seen log × (n ≡ length log)
 
-  -- a pass that knew v was split: it knows w, and the new one o. Its entries stay its own, the new one has none, and the two share its seats
+  -- a pass that knew v was split: it knows w, and the new one o. Its entries stay its own, the new one has
+  -- none, and the two share its seats
   pub record IsSplit (v w o : View E) : Type 0 where
     pub left : w ≡ left_of v
     pub right : o ≡ right_of v
@@ -47,7 +48,9 @@ module _ {E : Type 0} where
     pub none : own_entries o ≡ []
     pub counts : (n : ℕ) → count_in n w.classes + count_in n o.classes ≡ count_in n v.classes
 
-  -- a pass that knew o was joined into one that knew v, which then knows w. What either had seen begins what it has seen, its seats are those of both, and so are its entries: of either pass exactly those that it had
+  -- a pass that knew o was joined into one that knew v, which then knows w. What either had
+  -- seen begins what it has seen, its seats are those of both, and so are its entries: of
+  -- either pass exactly those that it had
   pub record IsJoined (v o w : View E) : Type 0 where
     pub both : w ≡ joined_of v o
     pub begins : IsPrefix v.seen w.seen
@@ -59,7 +62,9 @@ module _ {E : Type 0} where
     pub counts : (n : ℕ) → count_in n w.classes ≡ count_in n v.classes + count_in n o.classes
 
   module _ {P : Type 0} (stands : P → Log E → Type 0) (name_of : P → List ℕ) where
-    -- A call was entered. What the pass then has seen begins with all that it had seen and ends with the entry, under the pass's seat; between are entries of other seats alone. So of the pass's own entries it alone is new. The last word found was twice the entries before it, and the part stands for this history
+    -- A call was entered. What the pass then has seen begins with all that it had seen and ends with the
+    -- entry, under the pass's seat; between are entries of other seats alone. So of the pass's own entries it
+    -- alone is new. The last word found was twice the entries before it, and the part stands for this history
     pub record Entered (e : E) (v w : View E) : Type 0 where
       pub between : Log E
       pub seen : w.seen ≡ (v.seen ++ between) ++ (seat_of v, e) ∷ []
@@ -74,7 +79,8 @@ module _ {E : Type 0} where
       pub part : P
       pub is_part : IsPart stands name_of w.name w.seen part
 
-    -- No call was entered, since a history that goes on from what the pass has seen has 2 ^ 62 entries. The word of that length was found
+    -- No call was entered, since a history that goes on from what the pass has seen has 2 ^ 62 entries.
+    -- The word of that length was found
     pub record WasSpent (v w : View E) : Type 0 where
       pub unmoved : IsUnmoved v w
       pub found : w.found ≡ 2 ^ 63
@@ -92,13 +98,16 @@ module _ {E : Type 0} where
       pub is_part : IsPart stands name_of v.name log p
 
     module _ {C R : Type 0} (entry : C → R → E) (answers : C → R → Type 0) where
-      -- what each answer of one try says: one `fetch_or` was made, and the call was entered and the reply answers it, or it was handed back where that found the turn held or the history at its longest
+      -- what each answer of one try says: one `fetch_or` was made, and the call was entered and the reply
+      -- answers it, or it was handed back where that found the turn held or the history at its longest
       abbrev pub IsStep : C → View E → Tried P C R E → View E → Type 0
-      IsStep call v (Done reply) w = Entered (entry call reply) v w × (w.tries ≡ v.tries + 1) × answers call reply
+      IsStep call v (Done reply) w =
+          Entered (entry call reply) v w × (w.tries ≡ v.tries + 1) × answers call reply
       IsStep call v (Busy count back) w = (back ≡ call) × (count ≡ w.found / 2) × IsRefused v w
       IsStep call v (Spent back) w = (back ≡ call) × WasSpent v w × (w.tries ≡ v.tries + 1)
 
       -- the same of one that waits for its turn, by one `fetch_or` or more
       abbrev pub HasStepped : C → View E → Stepped P C R E → View E → Type 0
-      HasStepped call v (Whole.Done reply) w = Entered (entry call reply) v w × (v.tries < w.tries) × answers call reply
+      HasStepped call v (Whole.Done reply) w =
+          Entered (entry call reply) v w × (v.tries < w.tries) × answers call reply
       HasStepped call v (Whole.Spent back) w = (back ≡ call) × WasSpent v w × (v.tries < w.tries)

@@ -1,4 +1,5 @@
--- To be believed: the seats of a pass, as classes of numbers. The class (r, k) is the numbers that leave r when divided by 2 ^ k.
+-- To be believed: the seats of a pass, as classes of numbers. The class (r, k) is the numbers that
+-- leave r when divided by 2 ^ k.
 use Rattle.std.specs.Prelude.{◌≡◌, ℕ, ◌+◌, ◌%◌, ◌^◌, ◌<◌, ◌⊎◌, ◌||◌, ◌==◌, List, [], ◌∷◌, Bool, false}
 use Rattle.turn_cell.specs.Weights.{weigh, one_if}
 

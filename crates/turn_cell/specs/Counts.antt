@@ -1,4 +1,5 @@
--- Inner: the history of the counter that the tests lay into a cell. An entry is the step that was asked, and the count after it.
+-- Inner: the history of the counter that the tests lay into a cell. An entry is the step that was
+-- asked, and the count after it.
 use Rattle.std.specs.Prelude.{◌≡◌, ℕ, ◌+◌, ◌%◌, ◌^◌, List, [], ◌∷◌}
 
 -- the count after these entries, from n, as a u64 has it

@@ -1,4 +1,5 @@
--- To be believed: histories, what of a history belongs to classes of seats, and what a part has to do with one.
+-- To be believed: histories, what of a history belongs to classes of seats, and what a
+-- part has to do with one.
 use Rattle.std.specs.Prelude.{◌≡◌, ℕ, List, [], ◌∷◌, ◌++◌, length, filter, nat_lt, if◌then◌else◌}
 use Rattle.turn_cell.specs.Classes.{Within, within, OnlyFirsts}
 

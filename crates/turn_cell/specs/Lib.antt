@@ -6,3 +6,6 @@ pub mod Rule
 pub mod Held
 pub mod Calls
 pub mod Counts
+pub mod ListLaws
+pub mod ClassLaws
+pub mod Laws

@@ -23,7 +23,8 @@ module _ {E : Type 0} where
 
   -- one `fetch_or` more was made, and found this word
   abbrev pub tried : ℕ → Turn E → View E → View E
-  tried n t v = record v { tries = v.tries + 1; found = n; met_spent = v.met_spent || (n == 2 ^ 63); turn = t }
+  tried n t v =
+      record v { tries = v.tries + 1; found = n; met_spent = v.met_spent || (n == 2 ^ 63); turn = t }
 
   -- this history was seen, and the turn is held no more
   abbrev pub has_seen : Log E → View E → View E
@@ -31,7 +32,17 @@ module _ {E : Type 0} where
 
   -- the pass that makes a cell: all numbers are its seats, and it has seen nothing
   abbrev pub newcomer : List ℕ → View E
-  newcomer name = record { name = name; seen = []; classes = (0, 0) ∷ []; tries = 0; found = 0; met_spent = false; turn = Making; told = Nothing; gone = false }
+  newcomer name = record {
+    name = name;
+    seen = [];
+    classes = (0, 0) ∷ [];
+    tries = 0;
+    found = 0;
+    met_spent = false;
+    turn = Making;
+    told = Nothing;
+    gone = false;
+  }
 
   -- the first pass of a new cell
   abbrev pub first_view : List ℕ → View E
@@ -47,7 +58,13 @@ module _ {E : Type 0} where
 
   -- two passes joined: the longer of what they had seen, and the classes of both
   abbrev pub joined_of : View E → View E → View E
-  joined_of v w = record v { seen = longer v.seen w.seen; classes = v.classes ++ w.classes; tries = v.tries + w.tries; met_spent = v.met_spent || w.met_spent; told = Nothing }
+  joined_of v w = record v {
+    seen = longer v.seen w.seen;
+    classes = v.classes ++ w.classes;
+    tries = v.tries + w.tries;
+    met_spent = v.met_spent || w.met_spent;
+    told = Nothing;
+  }
 
   -- the same, as long as it is to be told how the two stood to each other
   abbrev pub both_of : View E → View E → View E
@@ -57,7 +74,8 @@ module _ {E : Type 0} where
   abbrev pub gone_view : View E
   gone_view = record (first_view []) { classes = []; gone = true }
 
-  -- of two passes that were joined, one had seen the beginning of what the other had, and nothing of its own was behind that
-  abbrev pub Fits : JoinPending E → Type 0
-  Fits Nothing = Unit {0}
-  Fits (Joined xs cs ys ds) = Ahead ds ys xs ⊎ Ahead cs xs ys
+  -- of two passes that were joined, one had seen the beginning of what the other had, and
+  -- nothing of its own was after that
+  abbrev pub JoinFits : JoinPending E → Type 0
+  JoinFits Nothing = Unit {0}
+  JoinFits (Joined xs cs ys ds) = Ahead ds ys xs ⊎ Ahead cs xs ys

@@ -1,4 +1,5 @@
--- To be believed: sums over lists, by which everything about several passes is said. With 1 for one kind of item and 0 for the others, a weight counts.
+-- To be believed: sums over lists, by which everything about several passes is said. With 1 for one kind of
+-- item and 0 for the others, a weight counts.
 use Rattle.std.specs.Prelude.{ℕ, ◌+◌, if◌then◌else◌, List, [], ◌∷◌, Bool}
 
 -- the weights of the items, added up

@@ -69,7 +69,8 @@ impl<P: Part> TurnCell<P> {
         requires own { IsOf self.now pass.old }
         requires may { P.may (view_of pass.old).name call }
         ensures own { IsOf self.now pass.new }
-        ensures step { HasStepped P.stands P.name P.entry P.answers call (view_of pass.old) result (view_of pass.new) }
+        ensures step { HasStepped P.stands P.name P.entry P.answers call (view_of pass.old) result
+            (view_of pass.new) }
     {
         let mut call = call;
         for _ in rt.forever() {
@@ -91,7 +92,8 @@ impl<P: Part> TurnCell<P> {
         requires own { IsOf self.now pass.old }
         requires may { P.may (view_of pass.old).name call }
         ensures own { IsOf self.now pass.new }
-        ensures step { IsStep P.stands P.name P.entry P.answers call (view_of pass.old) result (view_of pass.new) }
+        ensures step { IsStep P.stands P.name P.entry P.answers call (view_of pass.old) result
+            (view_of pass.new) }
     {
         let seat = &mut pass.seat;
         let found = self.table.shared.fetch_or::<Take<P>>(seat, WORD, 1);
@@ -221,7 +223,8 @@ impl<P: Part> TurnCell<P> {
 
 /// Applies a call to the part in a slot, where it lies.
 fn answer<P: Part>(slot: &mut Option<P>, call: P::Call) -> P::Reply
-    requires { (p : P) × (slot.old ≡ Some p) × P.may (P.name p) call × (h : _) × P.stands p h × (length h < 2 ^ 62) }
+    requires { (p : P) × (slot.old ≡ Some p) × P.may (P.name p) call × (h : _) × P.stands p h
+        × (length h < 2 ^ 62) }
     ensures part { (p : P) → slot.old ≡ Some p → HasApplied P.stands P.name (P.entry call result) p slot.new }
     ensures answers { P.answers call result }
 {

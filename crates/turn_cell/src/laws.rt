@@ -4,7 +4,7 @@ ghost use Rattle.std.specs.Prelude.{◌≡◌, ◌≢◌, ℕ, List, [], ◌∷�
 ghost use Rattle.turn_cell.specs.declared.view.View.{View};
 ghost use Rattle.turn_cell.specs.Classes.{AreClasses, Within, first_of};
 ghost use Rattle.turn_cell.specs.History.{Log, entries_in, Foreign, Ahead, AtFirsts};
-ghost use Rattle.turn_cell.specs.View.{left_of, right_of, both_of, joined_of, Fits};
+ghost use Rattle.turn_cell.specs.View.{left_of, right_of, both_of, joined_of, JoinFits};
 ghost use Rattle.turn_cell.specs.Calls.{IsSplit, IsJoined};
 
 /// A view whose first class is cut in two is split: own entries stay, the other half has none, and each
@@ -17,7 +17,7 @@ pub fn halves_are_a_split<E>()
 /// Two views put together are joined: what either had seen begins what is seen then, and the own entries are
 /// those of both.
 pub fn joined_views_are_a_join<E>()
-    ensures { (v o w : View E) → AreClasses (v.classes ++ o.classes) → Fits (both_of v o).told
+    ensures { (v o w : View E) → AreClasses (v.classes ++ o.classes) → JoinFits (both_of v o).told
         → w ≡ joined_of v o → IsJoined v o w }
 {}
 
@@ -30,7 +30,7 @@ pub fn an_entry_is_the_passes_own<E>()
         ≡ entries_in classes seen ++ (first_of classes, e) ∷ [] }
 {}
 
-/// Behind what a pass with all seats has seen there is nothing.
+/// After what a pass with all seats has seen there is nothing.
 pub fn all_seats_see_all<E>()
     ensures { (classes : List (ℕ × ℕ)) (seen log : Log E) → ((n : ℕ) → Within n classes)
         → Ahead classes seen log → log ≡ seen }

@@ -3,7 +3,7 @@ ghost use Rattle.std.specs.Prelude.{◌≡◌, [], All, IfOk};
 ghost use Rattle.turn_cell.specs.Counts.{CountsTo};
 ghost use Rattle.turn_cell.specs.Calls.{IsOf};
 
-use super::*;
+use crate::{Part, Pass, Stepped, Tried, TurnCell};
 use std::alloc::{AllocError, Global};
 use std::sync::atomic::{AtomicBool, Ordering};
 use std::sync::{Arc, Wait};
@@ -87,7 +87,7 @@ fn the_joined_pass_has_seen_the_calls_of_all_threads(rt: HostRuntime) -> Result<
     Ok(())
 }
 
-// A pass for each thread.
+/// A pass for each thread.
 fn passes_of(
     cell: &TurnCell<Counter>,
     pass: &mut Pass<Counter, (u64, u64)>,
@@ -104,7 +104,7 @@ fn passes_of(
     Ok(passes)
 }
 
-// Each pass makes its calls in a thread of its own.
+/// Each pass makes its calls in a thread of its own.
 fn count_in_threads<R: Threads + Wait + Sync>(
     rt: &R,
     cell: &TurnCell<Counter>,
@@ -177,7 +177,7 @@ impl Part for Gate {
     }
 }
 
-// Whether the flag is raised within a time.
+/// Whether the flag is raised within a time.
 fn comes(flag: &AtomicBool) -> bool {
     for _ in 0..LOOKS {
         if flag.load(Ordering::SeqCst) {
@@ -188,7 +188,7 @@ fn comes(flag: &AtomicBool) -> bool {
     false
 }
 
-// Makes the call that holds the turn.
+/// Makes the call that holds the turn.
 fn hold<R: Wait>(rt: &R, cell: &TurnCell<Gate>, pass: Pass<Gate, bool>) -> bool
     requires { IsOf cell.now pass }
 {
@@ -196,7 +196,7 @@ fn hold<R: Wait>(rt: &R, cell: &TurnCell<Gate>, pass: Pass<Gate, bool>) -> bool
     matches!(cell.step(rt, &mut pass, ()), Stepped::Done(true))
 }
 
-// Tries while the turn is held, and lets its holder go.
+/// Tries while the turn is held, and lets its holder go.
 fn disturb(
     cell: &TurnCell<Gate>,
     pass: Pass<Gate, bool>,
@@ -215,7 +215,7 @@ fn disturb(
     came && busy
 }
 
-// One thread holds the turn while another tries.
+/// One thread holds the turn while another tries.
 fn hold_and_disturb<R: Threads + Wait + Sync>(
     rt: &R,
     cell: &TurnCell<Gate>,

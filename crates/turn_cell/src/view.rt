@@ -12,7 +12,7 @@ pub enum Turn<E> {
 }
 
 /// What a join is to be told of two passes, each given by what it had seen and by its classes, at the load
-/// behind it. Between calls there is nothing to tell.
+/// after it. Between calls there is nothing to tell.
 pub enum JoinPending<E> {
     Nothing,
     Joined(

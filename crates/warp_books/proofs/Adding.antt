@@ -1,9 +1,11 @@
 -- A book with one connection more.
-use Rattle.std.proofs.Common.{◌≡◌, ℕ, ◌+◌, ◌-◌, ◌^◌, min, Bool, true, false, List, [], ◌∷◌, ◌++◌, length, refl, sym, ap, ◌∙◌, arith}
+use Rattle.std.proofs.Common.{◌≡◌, ℕ, ◌+◌, ◌-◌, ◌^◌, min, Bool, true, false, List, [], ◌∷◌, ◌++◌, length}
+use Rattle.std.proofs.Common.{refl, sym, ap, ◌∙◌, arith}
 use Rattle.std.specs.Prelude.{if◌then◌else◌, Option, Some, None, IfSome}
 use Rattle.reg_keys.specs.Tests.{one_if, total}
 use Rattle.warp_books.specs.declared.finish.Finish.{Finish}
-use Rattle.warp_books.specs.Books.{FinishedTold, capped, same_kind, Sums, HasAdded, BookTold, HasTaken, IsBookOf}
+use Rattle.warp_books.specs.Books.{FinishedTold, capped, same_kind, Sums, HasAdded, BookTold, BookHasTaken}
+use Rattle.warp_books.specs.Books.{IsBookOf}
 
 total_more : {A : Type 0} (f : A → ℕ) (xs : List A) (x : A) → total f (xs ++ x ∷ []) ≡ total f xs + f x
 total_more f [] x = omega arith
@@ -18,18 +20,23 @@ ends_more : (same : Bool) (s t a c : ℕ) → s ≡ min a (2 ^ 64 - 1) → t ≡
 ends_more true s t a c e f g = omega (arith, e, f, g)
 ends_more false s t a c e f g = omega (arith, e, f, g)
 
-kept_more : (ds : List FinishedTold) (d : FinishedTold) (b c : Option (List FinishedTold)) → IfSome b (λ now. now ≡ ds)
+kept_more : (ds : List FinishedTold) (d : FinishedTold) (b c : Option (List FinishedTold))
+    → IfSome b (λ now. now ≡ ds)
     → IfSome c (λ now. (before : List FinishedTold) × (b ≡ Some before) × (now ≡ before ++ d ∷ []))
     → IfSome c (λ now. now ≡ ds ++ d ∷ [])
 kept_more ds d b None h k = tt
 kept_more ds d b (Some now) h k = k.2 ∙ ap (λ (l : List FinishedTold). l ++ d ∷ []) (kept_was b k.0 k.1 h)
   where
-    kept_was : (b : Option (List FinishedTold)) (before : List FinishedTold) → b ≡ Some before → IfSome b (λ x. x ≡ ds)
+    kept_was : (b : Option (List FinishedTold)) (before : List FinishedTold) → b ≡ Some before
+        → IfSome b (λ x. x ≡ ds)
         → before ≡ ds
     kept_was None before e h = let z : None ≡ Some before = e in cc
-    kept_was (Some x) before e h = let z : Some x ≡ Some before = e in let w : x ≡ before = cc in sym w ∙ h
+    kept_was (Some x) before e h =
+        let z : Some x ≡ Some before = e in
+        let w : x ≡ before = cc in sym w ∙ h
 
-pub adds_up : (ds : List FinishedTold) (d : FinishedTold) (b c : BookTold) → IsBookOf ds b → HasTaken d b c
+pub adds_up : (ds : List FinishedTold) (d : FinishedTold) (b c : BookTold) → IsBookOf ds b
+    → BookHasTaken d b c
     → IsBookOf (ds ++ d ∷ []) c
 adds_up ds d b c is t = record {
   ends = λ k. ends_more (same_kind k d.end) _ _ _ _ (is.ends k) (t.sums.ends k)

@@ -1,9 +1,12 @@
--- To be believed: what is known of a finished connection and of a book that takes such, and what a book's numbers are.
-use Rattle.std.specs.Prelude.{◌≡◌, ℕ, ◌+◌, ◌-◌, ◌^◌, min, ◌==◌, Bool, if◌then◌else◌, List, [], ◌∷◌, ◌++◌, length, Option, Some, IfSome}
+-- To be believed: what is known of a finished connection and of a book that takes such,
+-- and what a book's numbers are.
+use Rattle.std.specs.Prelude.{◌≡◌, ℕ, ◌+◌, ◌-◌, ◌^◌, min, ◌==◌, Bool, if◌then◌else◌, List, [], ◌∷◌, ◌++◌}
+use Rattle.std.specs.Prelude.{length, Option, Some, IfSome}
 use Rattle.reg_keys.specs.declared.opening.Opening.{Opening}
 use Rattle.reg_keys.specs.Tests.{one_if, total}
 use Rattle.outside.specs.Causes.{LinkTold}
-use Rattle.conn_loop.specs.declared.step.End.TheVariants.{Clean, Cut, ReadFault, WriteFault, FileFault, NoMemory}
+use Rattle.conn_loop.specs.declared.step.End.TheVariants.{Clean, Cut, ReadFault, WriteFault, FileFault}
+use Rattle.conn_loop.specs.declared.step.End.TheVariants.{NoMemory}
 use Rattle.warp_books.specs.declared.finish.Turned.TheVariants.{Watches, Crowded, Poller, Shut}
 use Rattle.warp_books.specs.declared.finish.Finish.{Finish}
 use Rattle.warp_books.specs.declared.finish.Finish.TheVariants.{Ended, TimedOut, TurnedAway}
@@ -59,11 +62,13 @@ pub record BookTold : Type 0 where
   pub kept : Option (List FinishedTold)
 
 -- A book took this connection. A list that it still tells has it at the end of what it told before
-pub record HasTaken (d : FinishedTold) (b c : BookTold) : Type 0 where
+pub record BookHasTaken (d : FinishedTold) (b c : BookTold) : Type 0 where
   pub sums : HasAdded d b.sums c.sums
-  pub kept : IfSome c.kept (λ now. (before : List FinishedTold) × (b.kept ≡ Some before) × (now ≡ before ++ d ∷ []))
+  pub kept : IfSome c.kept
+      (λ now. (before : List FinishedTold) × (b.kept ≡ Some before) × (now ≡ before ++ d ∷ []))
 
--- The book was handed these connections, in this order. Each of its numbers is the sum over them, up to 2^64 - 1, and a list that it tells is the list of them
+-- The book was handed these connections, in this order. Each of its numbers is the sum over them, up to
+-- 2^64 - 1, and a list that it tells is the list of them
 pub record IsBookOf (ds : List FinishedTold) (b : BookTold) : Type 0 where
   pub ends : (k : Finish) → b.sums.ends k ≡ capped (total (λ d. one_if (same_kind k d.end)) ds)
   pub moments : b.sums.moments ≡ capped (total (λ d. length d.moments) ds)

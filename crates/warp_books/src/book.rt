@@ -1,6 +1,6 @@
 //! Finished connections, and what takes them.
 ghost use Rattle.std.specs.Prelude.{◌≡◌, length};
-ghost use Rattle.warp_books.specs.Books.{FinishedTold, BookTold, HasTaken, capped};
+ghost use Rattle.warp_books.specs.Books.{FinishedTold, BookTold, BookHasTaken, capped};
 
 use crate::finish::Finish;
 
@@ -33,5 +33,5 @@ pub trait Book<D: Ended>: Drop {
 
     /// Takes a finished connection.
     fn finished(&mut self, done: D)
-        ensures { HasTaken (D.told done) (told self.old) (told self.new) };
+        ensures { BookHasTaken (D.told done) (told self.old) (told self.new) };
 }

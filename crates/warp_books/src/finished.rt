@@ -8,9 +8,9 @@ use outside::{Files, Link};
 use reg_keys::Opening;
 use std::marker::PhantomData;
 
-/// A connection that is finished: its opening, its link, the moments that were asked for it, the bytes that it
-/// sent where its link tells them, how often its link had to be waited for, and how it ended. The two numbers
-/// stop at 2^64 - 1. The files' type says over which folder it was served.
+/// A connection that is finished: its opening, its link, the moments that were asked for it, the bytes that
+/// it sent where its link tells them, how often its link had to be waited for, and how it ended. The two
+/// numbers stop at 2^64 - 1. The files' type says over which folder it was served.
 #[derive(Drop)]
 pub struct Finished<L: Link, F: Files> {
     pub opening: Opening,
@@ -20,7 +20,14 @@ pub struct Finished<L: Link, F: Files> {
     pub waits: u64,
     pub end: Finish,
     of: PhantomData<F>,
-    ghost stands: { ∥ IsTrueTo (folder_serving F.folder) (record { opening = opening; link = L.told link; moments = moments.items; bytes = bytes; waits = waits; end = end }) ∥₁ },
+    ghost stands: { ∥ IsTrueTo (folder_serving F.folder) (record {
+      opening = opening;
+      link = L.told link;
+      moments = moments.items;
+      bytes = bytes;
+      waits = waits;
+      end = end;
+    }) ∥₁ },
 }
 
 impl<L: Link, F: Files> Finished<L, F> {
@@ -33,7 +40,14 @@ impl<L: Link, F: Files> Finished<L, F> {
         waits: u64,
         end: Finish,
     ) -> Finished<L, F>
-        requires { IsTrueTo (folder_serving F.folder) (record { opening = opening; link = L.told link; moments = moments.items; bytes = bytes; waits = waits; end = end }) }
+        requires { IsTrueTo (folder_serving F.folder) (record {
+          opening = opening;
+          link = L.told link;
+          moments = moments.items;
+          bytes = bytes;
+          waits = waits;
+          end = end;
+        }) }
         ensures whose { (result.opening ≡ opening) × (result.link ≡ link) × (result.moments ≡ moments) }
         ensures numbers { (result.bytes ≡ bytes) × (result.waits ≡ waits) × (result.end ≡ end) }
     {
@@ -50,7 +64,14 @@ impl<L: Link, F: Files> Finished<L, F> {
 }
 
 impl<L: Link, F: Files> Ended for Finished<L, F> {
-    ghost told = { λ d. record { opening = d.opening; link = L.told d.link; moments = d.moments.items; bytes = d.bytes; waits = d.waits; end = d.end } };
+    ghost told = { λ d. record {
+      opening = d.opening;
+      link = L.told d.link;
+      moments = d.moments.items;
+      bytes = d.bytes;
+      waits = d.waits;
+      end = d.end;
+    } };
 
     fn end(&self) -> Finish {
         self.end

@@ -1,4 +1,5 @@
-//! What holds of every book, and what makes a finished connection true to its link. Each law is the contract of a function that does nothing.
+//! What holds of every book, and what makes a finished connection true to its link. Each law is the contract
+//! of a function that does nothing.
 ghost use Rattle.std.specs.Prelude.{◌≡◌, ◌∷◌, ◌++◌, [], List, Option};
 ghost use Rattle.reg_keys.specs.declared.opening.Opening.{Opening};
 ghost use Rattle.outside.specs.Causes.{LinkTold, IsFresh};
@@ -9,23 +10,23 @@ ghost use Rattle.app_trait.specs.FolderMoves.{folder_move};
 ghost use Rattle.conn_loop.specs.declared.step.End.{End};
 ghost use Rattle.conn_loop.specs.declared.step.Step.TheVariants.{Done};
 ghost use Rattle.conn_loop.specs.Causes.{HasFault};
-ghost use Rattle.conn_loop.specs.Standing.{Standing, Represents, Counted, StepImpliesFor, at_first};
+ghost use Rattle.conn_loop.specs.ConnState.{ConnState, Represents, Counted, StepImpliesFor, at_first};
 ghost use Rattle.warp_books.specs.declared.finish.Finish.{Finish};
 ghost use Rattle.warp_books.specs.declared.finish.Finish.TheVariants.{Ended};
 ghost use Rattle.warp_books.specs.Truth.{IsTrueTo, IsGivenUp, finished_of, folder_serving};
-ghost use Rattle.warp_books.specs.Books.{FinishedTold, BookTold, HasTaken, IsBookOf};
+ghost use Rattle.warp_books.specs.Books.{FinishedTold, BookTold, BookHasTaken, IsBookOf};
 
 use conn_loop::sent_is_a_prefix;
 
 /// A book that was handed some connections and takes one more was handed these and that one.
 pub fn books_add_up()
     ensures { (ds : List FinishedTold) (d : FinishedTold) (b c : BookTold)
-        → IsBookOf ds b → HasTaken d b c → IsBookOf (ds ++ d ∷ []) c }
+        → IsBookOf ds b → BookHasTaken d b c → IsBookOf (ds ++ d ∷ []) c }
 {}
 
 /// A connection that came to its own end, as its last step said, is true to its link.
 pub fn ended_connections_are_true()
-    ensures { (o : Opening) (folder : Option Folder) (c : Standing) (end : End) (was : Option End)
+    ensures { (o : Opening) (folder : Option Folder) (c : ConnState) (end : End) (was : Option End)
         (before link : LinkTold) (files since : FilesTold)
         → Represents (λ request seen. folder_move request seen) folder c link
         → StepImpliesFor (Done end) (folder_serving folder) c link
@@ -37,7 +38,7 @@ pub fn ended_connections_are_true()
 
 /// A connection that was given up, with an end that says nothing of the bytes, is true to its link.
 pub fn given_up_connections_are_true()
-    ensures { (o : Opening) (folder : Option Folder) (c : Standing) (end : Finish) (link : LinkTold)
+    ensures { (o : Opening) (folder : Option Folder) (c : ConnState) (end : Finish) (link : LinkTold)
         → Represents (λ request seen. folder_move request seen) folder c link → Counted c link
         → IsGivenUp end → IsTrueTo (folder_serving folder) (finished_of o link c end) }
 {

@@ -6,11 +6,16 @@
 //! taken, and it is called cleanly ended or cut short only where it was.
 #![tactic(auto)]
 
-mod book;
+// A finished connection.
 mod finish;
 mod finished;
-mod laws;
+
+// Where it is kept.
+mod book;
 mod sum_book;
+
+// Laws of books.
+mod laws;
 
 pub use book::{Book, Ended};
 pub use finish::{Finish, Turned};

@@ -1,6 +1,6 @@
 //! A book that keeps sums alone.
 ghost use Rattle.std.specs.Prelude.{◌≡◌, ◌<◌, []};
-ghost use Rattle.warp_books.specs.Books.{HasTaken, IsBookOf, kind_number};
+ghost use Rattle.warp_books.specs.Books.{BookHasTaken, IsBookOf, kind_number};
 ghost use Rattle.warp_books.specs.EndCounts.{book_told};
 
 use crate::book::{Book, Ended};
@@ -86,7 +86,7 @@ impl<D: Ended + Drop> Book<D> for SumBook {
     ghost told = { book_told };
 
     fn finished(&mut self, done: D)
-        ensures { HasTaken (D.told done) (book_told self.old) (book_told self.new) }
+        ensures { BookHasTaken (D.told done) (book_told self.old) (book_told self.new) }
     {
         let place = place_of(done.end());
         self.ends[place] = self.ends[place].saturating_add(1);

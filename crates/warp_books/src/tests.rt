@@ -2,7 +2,7 @@
 ghost use Rattle.std.specs.Prelude.{None};
 ghost use Rattle.outside.specs.Counts.{nothing_counted};
 
-use super::*;
+use crate::{Book, Ended, Finish, SumBook, Turned};
 use conn_loop::End;
 use std::test::Fail;
 
@@ -18,7 +18,14 @@ struct Done {
 impl Ended for Done {
     ghost told = { λ d. record {
       opening = record { number = 0; fd = 0 };
-      link = record { taken = None; sent = None; ended = None; plan = None; faults = nothing_counted; waits = nothing_counted };
+      link = record {
+        taken = None;
+        sent = None;
+        ended = None;
+        plan = None;
+        faults = nothing_counted;
+        waits = nothing_counted;
+      };
       moments = d.moments.items;
       bytes = d.bytes;
       waits = d.waits;

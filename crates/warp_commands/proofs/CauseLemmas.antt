@@ -4,7 +4,7 @@ use Rattle.outside.specs.Causes.{LinkTold}
 use Rattle.outside.specs.FileCauses.{FilesTold}
 use Rattle.outside.specs.Moments.{ClockTold, Gives}
 use Rattle.conn_loop.specs.Causes.{Clocked}
-use Rattle.conn_loop.specs.Standing.{Standing, at_first}
+use Rattle.conn_loop.specs.ConnState.{ConnState, at_first}
 use Rattle.conn_loop.specs.declared.step.Step.{Step}
 use Rattle.conn_loop.specs.declared.step.Step.TheVariants.{WantRead, WantWrite, WantFile, Done}
 use Rattle.conn_loop.specs.declared.step.End.TheVariants as End
@@ -12,13 +12,17 @@ use Rattle.warp_commands.specs.Causes.{IsServeCause, Stays}
 use Rattle.warp_commands.specs.Steps.{Brings, status_after}
 
 -- a new connection's moments are those that it gained
-pub gives_first : (old new : Standing) (clock after : ClockTold) → old ≡ at_first → Clocked old new clock after → Gives new.moments clock after
+pub gives_first : (old new : ConnState) (clock after : ClockTold) → old ≡ at_first
+    → Clocked old new clock after → Gives new.moments clock after
 gives_first old new clock after is x =
-    subst (λ (v : List ℕ). Gives v clock after) (sym (x.grown ∙ ap (λ (s : Standing). s.moments ++ x.gained) is)) x.gave
+    subst (λ (v : List ℕ). Gives v clock after)
+    (sym (x.grown ∙ ap (λ (s : ConnState). s.moments ++ x.gained) is)) x.gave
 
--- and what stays behind it
-pub stays_after : (step : Step) (link later : LinkTold) (files since : FilesTold) (old new : Standing) (clock after : ClockTold)
-    → Brings step link later files since → Clocked old new clock after → Stays link later files since clock after
+-- and what stays after it
+pub stays_after : (step : Step) (link later : LinkTold) (files since : FilesTold)
+    (old new : ConnState) (clock after : ClockTold)
+    → Brings step link later files since → Clocked old new clock after
+    → Stays link later files since clock after
 stays_after step link later files since old new clock after x gave = record {
   of_link = x.of_link;
   counted = x.of_files.later;
@@ -28,7 +32,8 @@ stays_after step link later files since old new clock after x gave = record {
 }
 
 -- what a run of steps leaves is why a command ended
-pub caused_after : (step : Step) (link later : LinkTold) (files since : FilesTold) → step ≢ WantFile → Brings step link later files since
+pub caused_after : (step : Step) (link later : LinkTold) (files since : FilesTold) → step ≢ WantFile
+    → Brings step link later files since
     → IsServeCause (status_after step) link later files since
 caused_after WantRead link later files since stops x = record {
   own = tt;

@@ -1,5 +1,6 @@
 -- Inner: what the words of a command give, and a word that is cut at its first dot.
-use Rattle.std.proofs.Common.{◌≡◌, ℕ, ◌<◌, ◌≤◌, ◌&&◌, Bool, true, false, List, length, Option, Some, None, MatchOption, option_and_then, nat_le, if◌then◌else◌, refl, arith}
+use Rattle.std.proofs.Common.{◌≡◌, ℕ, ◌<◌, ◌≤◌, ◌&&◌, Bool, true, false, List, length, Option, Some, None}
+use Rattle.std.proofs.Common.{MatchOption, option_and_then, nat_le, if◌then◌else◌, refl, arith}
 use Rattle.std.proofs.lemmas.Bool.Decides.{nat_tests}
 use Rattle.std.specs.Prelude.{◌==◌}
 use Rattle.std.specs.Borrow.{Bor}
@@ -10,7 +11,8 @@ use Rattle.warp_commands.specs.ServiceWords.{dot_split, parts_shown}
 -- two parts stand round the first dot, and there are none where a word has no dot
 pub parted_at : (word : List ℕ) (r : Option (Bor (List ℕ) × Bor (List ℕ)))
     → MatchOption r (position_or_len (λ b. b == 46) word ≡ length word)
-    (λ x. (position_or_len (λ b. b == 46) word < length word) × (x.0.now ≡ before_first (λ b. b == 46) word) × (x.1.now ≡ after_first (λ b. b == 46) word))
+    (λ x. (position_or_len (λ b. b == 46) word < length word) × (x.0.now ≡ before_first (λ b. b == 46) word)
+    × (x.1.now ≡ after_first (λ b. b == 46) word))
     → parts_shown r ≡ dot_split word
 parted_at word None is = grind (arith, nat_tests)
 parted_at word (Some x) is = grind (arith, nat_tests)

@@ -1,5 +1,6 @@
 -- To be believed: why each status comes, and what a command leaves as it was.
-use Rattle.std.specs.Prelude.{◌≡◌, ◌≢◌, ◌⊎◌, ◌↔◌, ℕ, ◌≤◌, List, [], ◌∷◌, ◌++◌, Option, Some, None, IsSomeAnd, option_map}
+use Rattle.std.specs.Prelude.{◌≡◌, ◌≢◌, ◌⊎◌, ◌↔◌, ℕ, ◌≤◌, List, [], ◌∷◌, ◌++◌, Option, Some, None, IsSomeAnd}
+use Rattle.std.specs.Prelude.{option_map}
 use Rattle.outside.specs.Causes.{KeepsLink, LinkTold}
 use Rattle.outside.specs.Counts.{Counts, Rises, more_by_one}
 use Rattle.outside.specs.FileCauses.{FilesTold}
@@ -7,7 +8,10 @@ use Rattle.outside.specs.Moments.{ClockTold}
 use Rattle.outside.specs.declared.files.RootOut.TheVariants.{Present, Absent}
 use Rattle.app_trait.specs.Below.{LiesBelow}
 use Rattle.warp_commands.specs.declared.status.Status.{Status}
-use Rattle.warp_commands.specs.declared.status.Status.TheVariants.{Clean, Cut, Usage, ReadFault, WriteFault, FileFault, NoMemory, NoSuchFolder, PollFault, AcceptFault, Spent, OutFault, CannotListen, NotReady, TurnedAway}
+use Rattle.warp_commands.specs.declared.status.Status.TheVariants.{Clean, Cut, Usage, ReadFault, WriteFault}
+use Rattle.warp_commands.specs.declared.status.Status.TheVariants.{FileFault, NoMemory, NoSuchFolder}
+use Rattle.warp_commands.specs.declared.status.Status.TheVariants.{PollFault, AcceptFault, Spent, OutFault}
+use Rattle.warp_commands.specs.declared.status.Status.TheVariants.{CannotListen, NotReady, TurnedAway}
 use Rattle.warp_commands.specs.Words.{Reading, connection, root_in}
 
 -- one wait was counted, of a read
@@ -77,8 +81,8 @@ pub record LooksBelow (old new : Option (List (List ℕ))) : Type 0 where
   pub below : AreBelow paths
   pub looked : new ≡ option_map (λ before. before ++ paths) old
 
--- what stays: the link's plan, whether the files ever fail, a clock that stands still, and counts that never fall; and no path
--- that was looked for leads out of the folder
+-- what stays: the link's plan, whether the files ever fail, a clock that stands still, and counts that never
+-- fall; and no path that was looked for leads out of the folder
 pub record Stays (link later : LinkTold) (files since : FilesTold) (clock after : ClockTold) : Type 0 where
   pub of_link : KeepsLink link later
   pub counted : files.faults ≤ since.faults
@@ -86,14 +90,18 @@ pub record Stays (link later : LinkTold) (files since : FilesTold) (clock after 
   pub looks : LooksBelow files.looked since.looked
   pub still : after.still ≡ clock.still
 
--- what a command leaves: what stays in any case; without a folder all of the link and of the clock; without a command all
-pub record Leaves (status : Status) (link later : LinkTold) (files since : FilesTold) (clock after : ClockTold) : Type 0 where
+-- what a command leaves: what stays in any case; without a folder all of the link and of
+-- the clock; without a command all
+pub record Leaves (status : Status) (link later : LinkTold) (files since : FilesTold)
+    (clock after : ClockTold) : Type 0 where
   pub stays : Stays link later files since clock after
   pub no_folder : status ≡ NoSuchFolder → (later ≡ link) × (after ≡ clock)
   pub no_command : status ≡ Usage → (later ≡ link) × (after ≡ clock) × (since ≡ files)
 
--- Why a status comes: by the words, by what the files answered for the root, and by the counts of the very link and files.
-pub record HasCause (status : Status) (words : Reading) (link later : LinkTold) (files since : FilesTold) : Type 0 where
+-- Why a status comes: by the words, by what the files answered for the root, and by the
+-- counts of the very link and files.
+pub record HasCause (status : Status) (words : Reading) (link later : LinkTold)
+    (files since : FilesTold) : Type 0 where
   pub own : IsOfConnection status
   pub usage : (status ≡ Usage) ↔ (root_in words ≡ None)
   pub read_fault : status ≡ ReadFault → Rises link.faults.reads later.faults.reads
@@ -101,12 +109,16 @@ pub record HasCause (status : Status) (words : Reading) (link later : LinkTold) 
   pub file_fault : status ≡ FileFault → Rises files.faults since.faults
   pub not_ready : status ≡ NotReady → WaitsOnce link.waits later.waits
   pub waits_told : status ≢ NotReady → later.waits ≡ link.waits
-  pub names_root : (root : List ℕ) → words ≡ connection root → status ≢ NoMemory → IsSomeAnd since.rooted (λ r. r.0 ≡ root)
-  pub no_folder : (root : List ℕ) → words ≡ connection root → status ≢ NoMemory → (status ≡ NoSuchFolder) ↔ (since.rooted ≡ Some (root, Absent))
+  pub names_root : (root : List ℕ) → words ≡ connection root → status ≢ NoMemory
+      → IsSomeAnd since.rooted (λ r. r.0 ≡ root)
+  pub no_folder : (root : List ℕ) → words ≡ connection root → status ≢ NoMemory
+      → (status ≡ NoSuchFolder) ↔ (since.rooted ≡ Some (root, Absent))
   -- no root is served but one that is there
-  pub served_there : (root : List ℕ) → words ≡ connection root → WasServed status → since.rooted ≡ Some (root, Present)
+  pub served_there : (root : List ℕ) → words ≡ connection root → WasServed status
+      → since.rooted ≡ Some (root, Present)
   -- with a command, a root and no fault or wait, all is answered, or memory was wanted
-  pub complete : (root : List ℕ) → words ≡ connection root → since.rooted ≡ Some (root, Present) → NoneRose link later files since
+  pub complete : (root : List ℕ) → words ≡ connection root → since.rooted ≡ Some (root, Present)
+      → NoneRose link later files since
       → (status ≡ Clean) ⊎ (status ≡ Cut) ⊎ (status ≡ NoMemory)
 
 -- why a connection that was served ended as it did

@@ -20,9 +20,13 @@ use Rattle.warp_core.specs.declared.served.ServeEnd.TheVariants as Serving
 use Rattle.warp_core.specs.declared.served.Served.{Served}
 use Rattle.warp_core.specs.Ends.{EndsSo}
 use Rattle.warp_core.specs.Journals.{AreExplained}
+use Rattle.whole_runs.specs.Accounts.{ServedAddsUp}
 use Rattle.warp_commands.specs.Headline.{KeepsCallbacks}
 use Rattle.warp_commands.specs.declared.status.Status.{Status}
-use Rattle.warp_commands.specs.declared.status.Status.TheVariants.{Clean, Cut, Usage, ReadFault, WriteFault, FileFault, NoMemory, NoSuchFolder, PollFault, AcceptFault, Spent, OutFault, CannotListen, NotReady}
+use Rattle.warp_commands.specs.declared.status.Status.TheVariants.{Clean, Cut, Usage, ReadFault, WriteFault}
+use Rattle.warp_commands.specs.declared.status.Status.TheVariants.{FileFault, NoMemory, NoSuchFolder}
+use Rattle.warp_commands.specs.declared.status.Status.TheVariants.{PollFault, AcceptFault, Spent, OutFault}
+use Rattle.warp_commands.specs.declared.status.Status.TheVariants.{CannotListen, NotReady}
 use Rattle.warp_commands.specs.declared.status.Status.TheVariants as Exit
 
 -- a server came to its own end, with these counts
@@ -88,21 +92,28 @@ module _ {P F C G : Type 0} where
     pub no_file_fault : ¬ SomeEnded (Ended End.FileFault) kits
     pub no_cut : ¬ SomeEnded (Ended End.Cut) kits
 
-  -- Why a load that was served has its status. No two of these causes hold together, but for the two of a clean end, which the
-  -- printing tells apart; so each status comes exactly where its cause is.
+  -- Why a load that was served has its status. No two of these causes hold together, but for the two of a
+  -- clean end, which the printing tells apart; so each status comes exactly where its cause is.
   abbrev pub EndsAs : Status → ServeEnd → List (Kit P F C SumBook G) → Type 0
   EndsAs Spent end kits = end ≡ Serving.Spent
   EndsAs PollFault end kits = end ≡ Serving.PollFault
   EndsAs AcceptFault end kits = end ≡ Serving.AcceptFault
-  EndsAs NoMemory end kits = (end ≡ Serving.NoMemory) ⊎ IsOverWith end (λ counts. SomeEnded (Ended End.NoMemory) kits)
-  EndsAs Exit.TurnedAway end kits = IsOverWith end (λ counts. ¬ SomeEnded (Ended End.NoMemory) kits × SomeTurnedAway counts kits)
-  EndsAs ReadFault end kits = IsOverWith end (λ counts. WereServed counts kits × SomeEnded (Ended End.ReadFault) kits)
+  EndsAs NoMemory end kits =
+      (end ≡ Serving.NoMemory) ⊎ IsOverWith end (λ counts. SomeEnded (Ended End.NoMemory) kits)
+  EndsAs Exit.TurnedAway end kits =
+      IsOverWith end (λ counts. ¬ SomeEnded (Ended End.NoMemory) kits × SomeTurnedAway counts kits)
+  EndsAs ReadFault end kits =
+      IsOverWith end (λ counts. WereServed counts kits × SomeEnded (Ended End.ReadFault) kits)
   EndsAs WriteFault end kits =
-      IsOverWith end (λ counts. WereServed counts kits × ¬ SomeEnded (Ended End.ReadFault) kits × SomeEnded (Ended End.WriteFault) kits)
+      IsOverWith end (λ counts.
+      WereServed counts kits × ¬ SomeEnded (Ended End.ReadFault) kits × SomeEnded (Ended End.WriteFault) kits)
   EndsAs FileFault end kits =
-      IsOverWith end (λ counts. WereServed counts kits × ¬ SomeEnded (Ended End.ReadFault) kits × ¬ SomeEnded (Ended End.WriteFault) kits × SomeEnded (Ended End.FileFault) kits)
+      IsOverWith end (λ counts. WereServed counts kits × ¬ SomeEnded (Ended End.ReadFault) kits
+      × ¬ SomeEnded (Ended End.WriteFault) kits × SomeEnded (Ended End.FileFault) kits)
   EndsAs Cut end kits =
-      IsOverWith end (λ counts. WereServed counts kits × ¬ SomeEnded (Ended End.ReadFault) kits × ¬ SomeEnded (Ended End.WriteFault) kits × ¬ SomeEnded (Ended End.FileFault) kits × SomeEnded (Ended End.Cut) kits)
+      IsOverWith end (λ counts. WereServed counts kits × ¬ SomeEnded (Ended End.ReadFault) kits
+      × ¬ SomeEnded (Ended End.WriteFault) kits × ¬ SomeEnded (Ended End.FileFault) kits
+      × SomeEnded (Ended End.Cut) kits)
   EndsAs OutFault end kits = IsOverWith end (λ counts. AreClean counts kits)
   EndsAs Clean end kits = IsOverWith end (λ counts. AreClean counts kits)
   EndsAs Usage end kits = ⊥
@@ -117,10 +128,11 @@ number_line name number = name ++ decimal number ++ codes "\n"
 -- the three lines of a load that was served
 abbrev pub load_lines : (connections requests bytes : ℕ) → List ℕ
 load_lines connections requests bytes =
-    number_line (codes "connections ") connections ++ number_line (codes "requests ") requests ++ number_line (codes "bytes ") bytes
+    number_line (codes "connections ") connections ++ number_line (codes "requests ") requests
+    ++ number_line (codes "bytes ") bytes
 
--- At a clean end all of these lines were put. Where that failed, a part of them from the front was, and the faults rose. At each
--- other end nothing was.
+-- At a clean end all of these lines were put. Where that failed, a part of them from the front was, and the
+-- faults rose. At each other end nothing was.
 abbrev pub Prints : Status → List ℕ → (out printed : SinkTold) → Type 0
 Prints Clean lines out printed = Puts Stored lines out printed
 Prints OutFault lines out printed = Puts Failed lines out printed
@@ -139,13 +151,14 @@ Prints NotReady lines out printed = printed ≡ out
 Prints Exit.TurnedAway lines out printed = printed ≡ out
 
 module _ {P F C G L I X : Type 0} {H : Ghosts F X} where
-  -- What a server left that served a load with so many dispatchers: the passes are of what all shared and level, they keep the half of
-  -- the headline that speaks of descriptors, a journal
-  -- explains what each dispatcher did, and the end has its cause; no poller failed.
+  -- What a server left that served a load with this many dispatchers: the passes are of what all shared and
+  -- level, they keep the half of the headline that speaks of descriptors, a journal explains what each
+  -- dispatcher did, and the end has its cause; no poller failed.
   pub record WasDriven (connections dispatchers : ℕ) (s : Served P F C SumBook G L I X H) : Type 0 where
     pub own : All (λ pass. AreOf (arc_value s.shared) pass) s.passes.items
     pub level : ArePassesLevel pass_view s.passes.items
     pub callbacks : KeepsCallbacks pass_view s.passes.items
+    pub adds_up : ServedAddsUp book_told connections s
     pub explained : AreExplained book_told connections s.passes.items s.kits.items
     pub count : length s.kits.items ≡ dispatchers
     pub ends : EndsSo pass_view connections s.end s.passes.items 0
@@ -157,6 +170,7 @@ module _ {P F C G L I X : Type 0} {H : Ghosts F X} where
   lines_of s = load_lines (accepted_in s.end) (requests_of s.kits.items) (bytes_of s.kits.items)
 
   -- it has this status, by its cause, and printed what belongs to it
-  pub record DrivesTo (status : Status) (out printed : SinkTold) (s : Served P F C SumBook G L I X H) : Type 0 where
+  pub record DrivesTo (status : Status) (out printed : SinkTold)
+      (s : Served P F C SumBook G L I X H) : Type 0 where
     pub caused : EndsAs status s.end s.kits.items
     pub prints : Prints status (lines_of s) out printed

@@ -1,11 +1,12 @@
 -- To be believed: how the words that name a service are read.
-use Rattle.std.specs.Prelude.{ℕ, ◌≤◌, ◌==◌, List, [], ◌∷◌, length, Option, Some, None, IfSome, option_and_then, option_map, nat_lt, if◌then◌else◌}
+use Rattle.std.specs.Prelude.{ℕ, ◌≤◌, ◌==◌, List, [], ◌∷◌, length, Option, Some, None, IfSome}
+use Rattle.std.specs.Prelude.{option_and_then, option_map, nat_lt, if◌then◌else◌}
 use Rattle.std.specs.Borrow.{Bor}
 use Rattle.std.specs.List.{before_first, after_first, position_or_len}
 use Rattle.warp_load.specs.LoadWords.{dispatchers_read, number_read, number_within}
 use Rattle.warp_commands.specs.declared.service.Service.{Service}
 
--- what stands before the first dot, and what behind it, where there is one
+-- what stands before the first dot, and what after it, where there is one
 abbrev pub dot_split : List ℕ → Option (List ℕ × List ℕ)
 dot_split word =
     if nat_lt (position_or_len (λ b. b == 46) word) (length word)
@@ -40,11 +41,12 @@ pub record ServiceTold : Type 0 where
   pub connections : ℕ
   pub seconds : ℕ
 
--- the service that five words name: an address, a port of 1 to 65,535, 1 to 64 dispatchers, 1 to 4,294,967,295 connections,
--- and 1 to 86,400 seconds
+-- the service that five words name: an address, a port of 1 to 65,535, 1 to 64 dispatchers, 1 to
+-- 4,294,967,295 connections, and 1 to 86,400 seconds
 unfoldable pub service_read : (address port dispatchers connections seconds : List ℕ) → Option ServiceTold
 service_read address port dispatchers connections seconds =
-    option_and_then (λ a. option_and_then (λ p. option_and_then (λ d. option_and_then (λ c. option_map (λ s. record { address = a; port = p; dispatchers = d; connections = c; seconds = s })
+    option_and_then (λ a. option_and_then (λ p. option_and_then (λ d. option_and_then (λ c.
+    option_map (λ s. record { address = a; port = p; dispatchers = d; connections = c; seconds = s })
     (option_and_then (number_within 1 86400) (number_read seconds)))
     (option_and_then (number_within 1 4294967295) (number_read connections)))
     (dispatchers_read dispatchers))
@@ -53,7 +55,13 @@ service_read address port dispatchers connections seconds =
 
 -- what a service says
 abbrev pub service_shown : Service → ServiceTold
-service_shown s = record { address = s.address; port = s.port; dispatchers = s.dispatchers; connections = s.connections; seconds = s.seconds }
+service_shown s = record {
+  address = s.address;
+  port = s.port;
+  dispatchers = s.dispatchers;
+  connections = s.connections;
+  seconds = s.seconds;
+}
 
 -- the numbers of a service lie in their ranges
 pub record IsService (s : Service) : Type 0 where

@@ -3,7 +3,10 @@ use Rattle.std.specs.Prelude.{◌≡◌, ℕ, ◌≤◌, ◌⊎◌, List, [], �
 use Rattle.outside.specs.Counts.{Rises}
 use Rattle.outside.specs.SinkCauses.{SinkTold}
 use Rattle.warp_commands.specs.declared.status.Status.{Status}
-use Rattle.warp_commands.specs.declared.status.Status.TheVariants.{Clean, Cut, Usage, ReadFault, WriteFault, FileFault, NoMemory, NoSuchFolder, PollFault, AcceptFault, Spent, OutFault, CannotListen, NotReady, TurnedAway}
+use Rattle.warp_commands.specs.declared.status.Status.TheVariants.{Clean, Cut, Usage, ReadFault, WriteFault}
+use Rattle.warp_commands.specs.declared.status.Status.TheVariants.{FileFault, NoMemory, NoSuchFolder}
+use Rattle.warp_commands.specs.declared.status.Status.TheVariants.{PollFault, AcceptFault, Spent, OutFault}
+use Rattle.warp_commands.specs.declared.status.Status.TheVariants.{CannotListen, NotReady, TurnedAway}
 
 -- the exit status
 abbrev pub code_of : Status → ℕ
@@ -27,7 +30,9 @@ code_of TurnedAway = 14
 abbrev pub line_of : Status → List ℕ
 line_of Clean = []
 line_of Cut = codes "input cut short\n"
-line_of Usage = codes "usage: warp_serve connection ROOT | serve ROOT ADDR PORT DISPATCHERS CONNECTIONS SECONDS | drive SEED CONNECTIONS REQUESTS DISPATCHERS\n"
+line_of Usage =
+    codes
+    "usage: warp_serve connection ROOT | serve ROOT ADDR PORT DISPATCHERS CONNECTIONS SECONDS | drive SEED CONNECTIONS REQUESTS DISPATCHERS\n"
 line_of ReadFault = codes "read fault\n"
 line_of WriteFault = codes "write fault\n"
 line_of FileFault = codes "file fault\n"
@@ -44,7 +49,8 @@ line_of TurnedAway = codes "turned away\n"
 -- a sink got exactly this line, unless its count of faults rose
 abbrev pub TellsLine : List ℕ → (old new : SinkTold) → Type 0
 TellsLine line old new =
-    (old.faults ≤ new.faults) × (Rises old.faults new.faults ⊎ (new.stored ≡ option_map (λ bytes. bytes ++ line) old.stored))
+    (old.faults ≤ new.faults)
+    × (Rises old.faults new.faults ⊎ (new.stored ≡ option_map (λ bytes. bytes ++ line) old.stored))
 
 -- an exit status is that of an end of which this holds
 abbrev pub IsStatus : ℕ → (Status → Type 0) → Type 0

@@ -11,7 +11,8 @@ use Rattle.conn_loop.specs.declared.step.Step.TheVariants.{WantRead, WantWrite, 
 use Rattle.conn_loop.specs.declared.step.End.{End as Finish}
 use Rattle.conn_loop.specs.declared.step.End.TheVariants as End
 use Rattle.warp_commands.specs.declared.status.Status.{Status}
-use Rattle.warp_commands.specs.declared.status.Status.TheVariants.{Clean, Cut, ReadFault, WriteFault, FileFault, NoMemory, NotReady}
+use Rattle.warp_commands.specs.declared.status.Status.TheVariants.{Clean, Cut, ReadFault, WriteFault}
+use Rattle.warp_commands.specs.declared.status.Status.TheVariants.{FileFault, NoMemory, NotReady}
 use Rattle.warp_commands.specs.Causes.{LooksBelow}
 
 -- how a command ends whose connection went so far, where no file is wanted any more
@@ -60,7 +61,8 @@ pub record MayLook (path : List ℕ) (fails : Option Finish) (files since : File
   pub later : files.faults ≤ since.faults
   pub rooted : since.rooted ≡ files.rooted
   pub firm : since.firm ≡ files.firm
-  pub looked : (since.looked ≡ files.looked) ⊎ (since.looked ≡ option_map (λ paths. paths ++ path ∷ []) files.looked)
+  pub looked : (since.looked ≡ files.looked)
+      ⊎ (since.looked ≡ option_map (λ paths. paths ++ path ∷ []) files.looked)
   pub failed : FailsSince fails files.faults since.faults
 
 -- the end that what was supplied leads to

@@ -1,5 +1,6 @@
 -- To be believed: what the words of a command line mean.
-use Rattle.std.specs.Prelude.{ℕ, ◌≤◌, ◌&&◌, List, [], ◌∷◌, length, Option, Some, None, Result, Ok, Err, codes, bytes_eq, nat_lt, if◌then◌else◌}
+use Rattle.std.specs.Prelude.{ℕ, ◌≤◌, ◌&&◌, List, [], ◌∷◌, length, Option, Some, None, Result, Ok, Err, codes}
+use Rattle.std.specs.Prelude.{bytes_eq, nat_lt, if◌then◌else◌}
 use Rattle.warp_load.specs.LoadWords.{dispatchers_read, load_read}
 use Rattle.warp_commands.specs.declared.command.Command.{Command}
 use Rattle.warp_commands.specs.declared.command.Command.TheVariants.{Connection, Serve, Drive}
@@ -15,7 +16,8 @@ pub data Reading : Type 0 where
 
 -- two words: `connection` and a root that isn't empty
 abbrev pub connection_read : List ℕ → List ℕ → Reading
-connection_read command root = if bytes_eq command (codes "connection") && nat_lt 0 (length root) then connection root else no_command
+connection_read command root =
+    if bytes_eq command (codes "connection") && nat_lt 0 (length root) then connection root else no_command
 
 -- a root, and a service
 abbrev pub serve_of : List ℕ → Option ServiceTold → Reading
@@ -25,7 +27,8 @@ serve_of root None = no_command
 -- seven words: `serve`, a root that isn't empty, and five that are a service
 abbrev pub serve_read : (command root address port dispatchers connections seconds : List ℕ) → Reading
 serve_read command root address port dispatchers connections seconds =
-    if bytes_eq command (codes "serve") && nat_lt 0 (length root) then serve_of root (service_read address port dispatchers connections seconds) else no_command
+    if bytes_eq command (codes "serve") && nat_lt 0 (length root)
+    then serve_of root (service_read address port dispatchers connections seconds) else no_command
 
 -- the numbers of a load, and of dispatchers
 abbrev pub drive_of : Option (ℕ × ℕ × ℕ) → Option ℕ → Reading
@@ -36,13 +39,16 @@ drive_of None _ = no_command
 -- five words: `drive`, three that are a load, and one that is a number of dispatchers, 1 to 64
 abbrev pub drive_read : (command seed connections requests dispatchers : List ℕ) → Reading
 drive_read command seed connections requests dispatchers =
-    if bytes_eq command (codes "drive") then drive_of (load_read seed connections requests) (dispatchers_read dispatchers) else no_command
+    if bytes_eq command (codes "drive")
+    then drive_of (load_read seed connections requests) (dispatchers_read dispatchers) else no_command
 
 -- what these words ask for
 abbrev pub words_read : List (List ℕ) → Reading
 words_read (command ∷ root ∷ []) = connection_read command root
-words_read (command ∷ root ∷ address ∷ port ∷ dispatchers ∷ connections ∷ seconds ∷ []) = serve_read command root address port dispatchers connections seconds
-words_read (command ∷ seed ∷ connections ∷ requests ∷ dispatchers ∷ []) = drive_read command seed connections requests dispatchers
+words_read (command ∷ root ∷ address ∷ port ∷ dispatchers ∷ connections ∷ seconds ∷ []) =
+    serve_read command root address port dispatchers connections seconds
+words_read (command ∷ seed ∷ connections ∷ requests ∷ dispatchers ∷ []) =
+    drive_read command seed connections requests dispatchers
 words_read _ = no_command
 
 -- the root of a command that serves one connection

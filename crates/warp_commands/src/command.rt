@@ -1,4 +1,4 @@
-// The words of a command line. They are few and positional, so they are read by hand.
+//! The words of a command line. They are few and positional, so they are read by hand.
 ghost use Rattle.std.specs.Prelude.{◌≡◌, IfOk, map, option_map, string_bytes};
 ghost use Rattle.warp_load.specs.LoadWords.{dispatchers_read, load_read};
 ghost use Rattle.warp_commands.specs.ServiceWords.{HasRanges, service_shown};
@@ -12,11 +12,11 @@ use warp_load::{Load, dispatchers_in, load_in};
 pub enum Command<'a> {
     /// `connection ROOT`: serve one connection over standard input and output, from the folder ROOT.
     Connection { root: &'a str },
-    /// `serve ROOT ADDR PORT DISPATCHERS CONNECTIONS SECONDS`: serve whoever connects to ADDR and PORT, from the
-    /// folder ROOT.
+    /// `serve ROOT ADDR PORT DISPATCHERS CONNECTIONS SECONDS`: serve whoever connects to ADDR
+    /// and PORT, from the folder ROOT.
     Serve { root: &'a str, service: Service },
-    /// `drive SEED CONNECTIONS REQUESTS DISPATCHERS`: serve the load of these numbers over a net in memory, with
-    /// so many dispatchers, 1 to 64.
+    /// `drive SEED CONNECTIONS REQUESTS DISPATCHERS`: serve the load of these numbers over a net in memory,
+    /// with this many dispatchers, 1 to 64.
     Drive { load: Load, dispatchers: u32 },
 }
 
@@ -26,9 +26,9 @@ pub struct Usage;
 
 /// The command that the words name, the program's own name left out. It takes no memory.
 ///
-/// A ROOT isn't empty. A number is 1 to 10 decimal digits. ADDR is four numbers of 0 to 255 with a dot between each two,
-/// PORT 1 to 65,535, DISPATCHERS 1 to 64, the CONNECTIONS of `serve` 1 to 4,294,967,295 and SECONDS 1 to 86,400. The
-/// other numbers of `drive` are in the ranges of a load. All else is `Usage`.
+/// A ROOT isn't empty. A number is 1 to 10 decimal digits. ADDR is four numbers of 0 to 255 with a dot
+/// between each two, PORT 1 to 65,535, DISPATCHERS 1 to 64, the CONNECTIONS of `serve` 1 to 4,294,967,295 and
+/// SECONDS 1 to 86,400. The other numbers of `drive` are in the ranges of a load. All else is `Usage`.
 pub fn command_of(words: &[String]) -> Result<Command<'_>, Usage>
     // It is that of the words, and no other.
     ensures reads { command_shown result ≡ words_read (map string_bytes words.now) }
@@ -89,7 +89,8 @@ fn drive_in<'a>(
     requests: &str,
     dispatchers: &str,
 ) -> Result<Command<'a>, Usage>
-    ensures reads { command_shown result ≡ drive_of (load_read seed.now connections.now requests.now) (dispatchers_read dispatchers.now) }
+    ensures reads { command_shown result
+        ≡ drive_of (load_read seed.now connections.now requests.now) (dispatchers_read dispatchers.now) }
     ensures within { IfOk result IsWithin }
 {
     match (

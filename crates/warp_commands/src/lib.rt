@@ -1,7 +1,8 @@
 //! The commands: what their words mean, and the calls that carry them out from words to status.
 //!
-//! Its promise: the call that the program's `main` makes says of the very link, files, clock and sink that it was handed
-//! that the written bytes are a prefix of the requests' answers in order, whole at a clean end, and why each status came.
+//! Its promise: the call that the program's `main` makes says of the very link, files, clock and sink that
+//! it was handed that the written bytes are a prefix of the requests' answers in order, whole at a clean
+//! end, and why each status came.
 #![tactic(auto)]
 
 // What the words mean, and what a status is.

@@ -18,6 +18,7 @@ use warp_core::{Served, serve_loop};
 use warp_jobs::{FreeGate, Job, Kit};
 use warp_load::{LOAD_MOMENT, Load, LoadPlace, a_load_has_its_ranges, load_files, load_scripts};
 use warp_passes::ServePass;
+use whole_runs::served_runs_add_up;
 
 /// What serving a load leaves.
 pub type Driven = Served<MemPoller, MemFiles<LoadPlace>, MemClock, SumBook, FreeGate>;
@@ -31,10 +32,10 @@ type LoadPass = ServePass<Job<MemPoller, MemFiles<LoadPlace>>, MemFiles<LoadPlac
 /// A lease of a file of a load.
 type LoadLease = Lease<MemFiles<LoadPlace>>;
 
-/// A connection on which nothing happened for so many seconds is ended. The clocks stand, so that none is.
+/// A connection on which nothing happened for this many seconds is ended. The clocks stand, so that none is.
 const SECONDS: u64 = 30;
 
-/// Serves a load, with so many dispatchers. An error is want of memory.
+/// Serves a load, with this many dispatchers. An error is want of memory.
 pub(crate) fn served_load<R: Threads + Wait + Sync>(
     rt: &R,
     alloc: Global,
@@ -49,7 +50,10 @@ pub(crate) fn served_load<R: Threads + Wait + Sync>(
     level_passes_keep_callbacks::<LoadPass, LoadLease>();
     let (listener, pollers) = net_of(alloc, load, dispatchers)?;
     let kits = kits_of(alloc, pollers)?;
-    serve_loop(rt, alloc, listener, kits, load.connections, SECONDS)
+    let served = serve_loop(rt, alloc, listener, kits, load.connections, SECONDS)?;
+    // A law of what servers leave, for the proof: it does nothing when run.
+    served_runs_add_up(&served, load.connections);
+    Ok(served)
 }
 
 /// The listener that gives the load's links, and a poller for each dispatcher.
@@ -59,7 +63,8 @@ fn net_of(
     dispatchers: u32,
 ) -> Result<(MemListener, Vec<MemPoller>), AllocError>
     requires { (1 ≤ dispatchers) × (dispatchers ≤ 64) }
-    ensures plans { IfOk result (λ net. (⟦<MemListener as Listener>⟧.told net.0).plans ≡ Some (load_plans load.seed load.connections load.requests)) }
+    ensures plans { IfOk result (λ net. (⟦<MemListener as Listener>⟧.told net.0).plans
+        ≡ Some (load_plans load.seed load.connections load.requests)) }
     ensures count { IfOk result (λ net. vec_len net.1 ≡ dispatchers) }
 {
     MemNet::new(alloc, load_scripts(alloc, load)?, dispatchers)

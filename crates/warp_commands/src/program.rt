@@ -24,8 +24,8 @@ use warp_core::ServeEnd;
 use warp_front::Front;
 use warp_load::Load;
 
-/// What a command works on: the one link, with files and a clock, that `connection` serves; where lines and errors go;
-/// what `serve` begins with and leaves; and what `drive` leaves of the load that it served.
+/// What a command works on: the one link, with files and a clock, that `connection` serves; where lines and
+/// errors go; what `serve` begins with and leaves; and what `drive` leaves of the load that it served.
 #[derive(Drop)]
 pub struct Host<L, F, C, O, E, N: Front> {
     pub link: L,
@@ -40,7 +40,8 @@ pub struct Host<L, F, C, O, E, N: Front> {
 
 /// Carries out the command that the words name, and gives the exit status.
 ///
-/// The words are those of the command line without the program's name. The link is handed in unused, and nothing was served.
+/// The words are those of the command line without the program's name. The link is handed in
+/// unused, and nothing was served.
 /// The status's line goes to the stream for errors, whose faults change no status.
 pub fn run<L: Link, F: Files, C: Clock, O: Sink, E: Sink, N: Front, R: Threads + Wait + Sync>(
     rt: &R,
@@ -56,21 +57,35 @@ where
     requires unserved { (host.old.served ≡ None) × (host.old.driven ≡ None) }
 
     // What was done is what the words ask for, and the status has its cause there.
-    ensures runs { IsStatus result (λ status. Runs book_told N.Poller.meaning.faults F.folder (words_read (map string_bytes words.now)) status
-        (record { link = L.told host.old.link; files = F.told host.old.files; clock = C.told host.old.clock; out = O.told host.old.out; front = N.told host.old.front })
-        (record { link = L.told host.new.link; files = F.told host.new.files; clock = C.told host.new.clock; out = O.told host.new.out; front = N.told host.new.front })
+    ensures runs { IsStatus result (λ status.
+        Runs book_told N.Poller.meaning.faults F.folder (words_read (map string_bytes words.now)) status
+        (record {
+          link = L.told host.old.link;
+          files = F.told host.old.files;
+          clock = C.told host.old.clock;
+          out = O.told host.old.out;
+          front = N.told host.old.front;
+        })
+        (record {
+          link = L.told host.new.link;
+          files = F.told host.new.files;
+          clock = C.told host.new.clock;
+          out = O.told host.new.out;
+          front = N.told host.new.front;
+        })
         host.new.served host.new.driven) }
 
     // The stream for errors got the status's line and nothing else.
-    ensures told { IsStatus result (λ status. TellsLine (line_of status) (E.told host.old.errors) (E.told host.new.errors)) }
+    ensures told { IsStatus result
+        (λ status. TellsLine (line_of status) (E.told host.old.errors) (E.told host.new.errors)) }
 {
-    let status = carried_out(rt, alloc, words, host);
+    let status = carry_out(rt, alloc, words, host);
     tell(&mut host.errors, status);
     status.code()
 }
 
 /// Carries out the command that the words name.
-fn carried_out<L: Link, F: Files, C: Clock, O: Sink, E, N: Front, R: Threads + Wait + Sync>(
+fn carry_out<L: Link, F: Files, C: Clock, O: Sink, E, N: Front, R: Threads + Wait + Sync>(
     rt: &R,
     alloc: Global,
     words: &[String],
@@ -82,9 +97,22 @@ where
     <N::Files as Files>::File: Send,
     requires fresh { IsFresh (L.told host.old.link) }
     requires unserved { (host.old.served ≡ None) × (host.old.driven ≡ None) }
-    ensures runs { Runs book_told N.Poller.meaning.faults F.folder (words_read (map string_bytes words.now)) result
-        (record { link = L.told host.old.link; files = F.told host.old.files; clock = C.told host.old.clock; out = O.told host.old.out; front = N.told host.old.front })
-        (record { link = L.told host.new.link; files = F.told host.new.files; clock = C.told host.new.clock; out = O.told host.new.out; front = N.told host.new.front })
+    ensures runs { Runs book_told N.Poller.meaning.faults F.folder
+        (words_read (map string_bytes words.now)) result
+        (record {
+          link = L.told host.old.link;
+          files = F.told host.old.files;
+          clock = C.told host.old.clock;
+          out = O.told host.old.out;
+          front = N.told host.old.front;
+        })
+        (record {
+          link = L.told host.new.link;
+          files = F.told host.new.files;
+          clock = C.told host.new.clock;
+          out = O.told host.new.out;
+          front = N.told host.new.front;
+        })
         host.new.served host.new.driven }
     ensures errors { host.new.errors ≡ host.old.errors }
 {

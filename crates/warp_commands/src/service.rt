@@ -1,4 +1,5 @@
-// What a server is to do: where it listens, with how many dispatchers, how long, and when a connection has timed out.
+//! What a server is to do: where it listens, with how many dispatchers, how long, and
+//! when a connection has timed out.
 ghost use Rattle.std.specs.Prelude.{◌≡◌, ◌≤◌, IfSome, option_and_then, option_map};
 ghost use Rattle.warp_load.specs.LoadWords.{number_read, number_within};
 ghost use Rattle.warp_commands.specs.ServiceWords.{HasRanges, address_read, dot_split, octet_read, parts_shown, service_read, service_shown};
@@ -22,7 +23,8 @@ pub struct Service {
     pub dispatchers: u32,
     /// After how many connections it ends, 1 to 4,294,967,295.
     pub connections: u64,
-    /// After how many seconds, up to twice as many, a connection on which nothing happens is ended, 1 to 86,400.
+    /// After how many seconds, up to twice as many, a connection on which nothing
+    /// happens is ended, 1 to 86,400.
     pub seconds: u64,
 }
 
@@ -35,7 +37,8 @@ pub(crate) fn service_in(
     connections: &str,
     seconds: &str,
 ) -> Option<Service>
-    ensures reads { option_map service_shown result ≡ service_read address.now port.now dispatchers.now connections.now seconds.now }
+    ensures reads { option_map service_shown result
+        ≡ service_read address.now port.now dispatchers.now connections.now seconds.now }
     ensures ranges { HasRanges result }
 {
     Some(Service {
@@ -63,7 +66,7 @@ fn address_in(word: &str) -> Option<[u8; 4]>
     ])
 }
 
-/// What stands before the first dot, and what behind it.
+/// What stands before the first dot, and what after it.
 fn parted(word: &str) -> Option<(&str, &str)>
     ensures { parts_shown result ≡ dot_split word.now }
 {

@@ -25,6 +25,7 @@ use warp_core::{ServeEnd, Served, serve_loop};
 use warp_front::{Front, KitsOut, ListenOut};
 use warp_jobs::{Job, Kit};
 use warp_passes::ServePass;
+use whole_runs::served_runs_add_up;
 
 /// The line that says that a server listens.
 const LISTENING: &[u8] = b"listening\n";
@@ -55,8 +56,8 @@ type Begun<N> = (
     >,
 );
 
-/// Serves a folder to whoever connects, and leaves what its server left. A line says that it listens, and at its own end
-/// another one how many links it accepted.
+/// Serves a folder to whoever connects, and leaves what its server left. A line says that it listens, and at
+/// its own end another one how many links it accepted.
 pub(crate) fn serve<F: Files, O: Sink, N: Front, R: Threads + Wait + Sync>(
     rt: &R,
     alloc: Global,
@@ -97,6 +98,8 @@ where
     ) else {
         return Status::NoMemory;
     };
+    // A law of what servers leave, for the proof: it does nothing when run.
+    served_runs_add_up(&left, service.connections);
     let status = told(left.end, out);
     *served = Some(left);
     status
@@ -113,9 +116,12 @@ fn begin<F: Files, N: Front>(
     ensures count { IfOk result (λ begun. length begun.1.items ≡ service.dispatchers) }
     ensures books { IfOk result (λ begun. All (λ kit. IsBookOf [] (book_told kit.book)) begun.1.items) }
     ensures listener { IfOk result (λ begun. (N.Poller.Listener.told begun.0).failed_row ≡ 0) }
-    ensures rooted { IfOk result (λ begun. AskedRoot Roots.Present root.now (F.told files.old) (F.told files.new)) }
-    ensures listened { IfOk result (λ begun. HasListened root.now (service_shown service) (N.told front.old) (N.told front.new)) }
-    ensures refused { IfErr result (λ status. (printed : SinkTold) → RefusesToServe status root.now (service_shown service)
+    ensures rooted { IfOk result
+        (λ begun. AskedRoot Roots.Present root.now (F.told files.old) (F.told files.new)) }
+    ensures listened { IfOk result
+        (λ begun. HasListened root.now (service_shown service) (N.told front.old) (N.told front.new)) }
+    ensures refused { IfErr result
+        (λ status. (printed : SinkTold) → RefusesToServe status root.now (service_shown service)
         (record { files = F.told files.old; out = printed; front = N.told front.old })
         (record { files = F.told files.new; out = printed; front = N.told front.new })) }
 {
@@ -140,7 +146,8 @@ fn begin<F: Files, N: Front>(
 /// The status of a server that was begun. At its own end it says how many links it accepted.
 fn told<O: Sink>(end: ServeEnd, out: &mut O) -> Status
     ensures status { EndsServing result end }
-    ensures prints { Prints result (number_line (codes "connections ") (accepted_in end)) (O.told out.old) (O.told out.new) }
+    ensures prints { Prints result (number_line (codes "connections ") (accepted_in end))
+        (O.told out.old) (O.told out.new) }
 {
     match end {
         ServeEnd::Over(counts) => {

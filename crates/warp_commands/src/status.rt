@@ -1,4 +1,5 @@
-// How a command ended. Each end has a number, which is the program's exit status, and all but a clean one a line of text.
+//! How a command ended. Each end has a number, which is the program's exit status, and all
+//! but a clean one a line of text.
 ghost use Rattle.std.specs.Prelude.{◌≡◌};
 ghost use Rattle.warp_commands.specs.Statuses.{code_of, line_of, TellsLine};
 
@@ -19,7 +20,7 @@ pub enum Status {
     WriteFault = 4,
     /// The files failed.
     FileFault = 5,
-    /// Memory was wanted and not found.
+    /// Out of memory.
     NoMemory = 6,
     /// The root isn't there, or is no folder.
     NoSuchFolder = 7,

@@ -10,7 +10,8 @@ use warp_books::{Finish, SumBook, Turned};
 use warp_core::{Counts, ServeEnd};
 use warp_jobs::Kit;
 
-/// How a load ended whose server ended so, by what it counted and by the books. Where all is clean, that is to be printed yet.
+/// How a load ended whose server ended so, by what it counted and by the books. Where all is
+/// clean, that is to be printed yet.
 pub(crate) fn status_of<P, F, C, G>(end: ServeEnd, kits: &[Kit<P, F, C, SumBook, G>]) -> Status
     ensures cause { EndsAs result end kits.now }
     ensures unprinted { result ≢ Exit.OutFault }

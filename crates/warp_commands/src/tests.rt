@@ -1,4 +1,5 @@
-// Worked exchanges over memory: what comes in, what goes out, and the status. Each comes in one piece and byte by byte.
+//! Worked exchanges over memory: what comes in, what goes out, and the status. Each comes
+//! in one piece and byte by byte.
 ghost use Rattle.std.specs.Prelude.{◌≡◌, ◌≤◌, ◌<◌, IfOk};
 ghost use Rattle.outside.specs.MemFolder.{folder_in};
 ghost use Rattle.outside.specs.ReadScript.{EachFilled};
@@ -55,7 +56,7 @@ struct Outcome {
 }
 
 /// Carries out a command over these files and this input.
-fn carried_out<K: Place>(
+fn carry_out<K: Place>(
     alloc: Global,
     words: &[String],
     contents: Vec<MemFile>,
@@ -127,7 +128,7 @@ fn over_the_site(
     for word in words {
         owned.push(String::from_str(alloc, word)?)?;
     }
-    carried_out::<Brand>(alloc, &owned, site(alloc)?, reads, scene)
+    carry_out::<Brand>(alloc, &owned, site(alloc)?, reads, scene)
 }
 
 /// The input in one piece.
@@ -163,7 +164,8 @@ fn cut(alloc: Global, input: &[u8], in_bytes: bool) -> Result<Vec<ReadEvent>, Al
     }
 }
 
-/// Asserts the status, the number of bytes sent, how they begin and what was told, for either cutting of the input.
+/// Asserts the status, the number of bytes sent, how they begin and what was told, for
+/// either cutting of the input.
 fn exchanged<R: Abort>(
     rt: &R,
     alloc: Global,
@@ -331,7 +333,7 @@ fn a_browser_is_answered_and_kept(rt: HostRuntime) -> Result<(), Fail> {
     Ok(())
 }
 
-/// A text, then so many letters, then another text.
+/// A text, then this many letters, then another text.
 fn with_letters(
     alloc: Global,
     front: &str,

@@ -1,8 +1,10 @@
 pub mod Apart
 pub mod Beating
 pub mod Caused
+pub mod EventSums
 pub mod Filling
 pub mod Halting
+pub mod Keeping
 pub mod Levelled
 pub mod Looked
 pub mod Made

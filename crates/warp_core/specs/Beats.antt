@@ -1,5 +1,6 @@
 -- To be believed: when a sweep is due, and what a beat of the dispatcher that keeps the beats does.
-use Rattle.std.specs.Prelude.{◌≡◌, ◌⊎◌, ℕ, ◌+◌, ◌<◌, ◌≤◌, List, [], ◌∷◌, ◌++◌, Bool, true, false, Option, Some, None}
+use Rattle.std.specs.Prelude.{◌≡◌, ◌⊎◌, ℕ, ◌+◌, ◌<◌, ◌≤◌, List, [], ◌∷◌, ◌++◌, Bool, true, false, Option}
+use Rattle.std.specs.Prelude.{Some, None}
 use Rattle.outside.specs.declared.files.Files.{Ghosts}
 use Rattle.outside.specs.Moments.{ClockTold, Gives}
 use Rattle.turn_cell.specs.declared.view.View.{View}
@@ -15,10 +16,13 @@ use Rattle.warp_core.specs.declared.row.Row.{Row}
 use Rattle.warp_core.specs.declared.row.Halted.{Halted}
 use Rattle.warp_core.specs.Rows.{HasGoneOn}
 
--- A sweep is due at a moment that is so many seconds or more after the last one's, and then it is the last one's itself. At the first moment none is due, and it counts as the last one's
+-- A sweep is due at a moment that is this many seconds or more after the last one's, and then it is the last
+-- one's itself. At the first moment none is due, and it counts as the last one's
 abbrev pub IsDueAt : ℕ → Option ℕ → ℕ → Bool → Option ℕ → Type 0
 IsDueAt seconds None now due last = (due ≡ false) × (last ≡ Some now)
-IsDueAt seconds (Some was) now due last = ((due ≡ true) × (was + seconds ≤ now) × (last ≡ Some now)) ⊎ ((due ≡ false) × (now < was + seconds) × (last ≡ Some was))
+IsDueAt seconds (Some was) now due last =
+    ((due ≡ true) × (was + seconds ≤ now) × (last ≡ Some now))
+    ⊎ ((due ≡ false) × (now < was + seconds) × (last ≡ Some was))
 
 -- the one new deed of a pass on the cache is a reap
 abbrev pub HasReaped : {L : Type 0} → View (CacheDeed L) → View (CacheDeed L) → Type 0
@@ -26,16 +30,20 @@ HasReaped {L} v w = (closed : List L) × (entries_of w ≡ entries_of v ++ Reape
 
 -- the last two deeds of a pass on the cache are reaps, which it did after all that it had done
 abbrev pub HasReapedTwice : {L : Type 0} → View (CacheDeed L) → View (CacheDeed L) → Type 0
-HasReapedTwice {L} v w = (between : List (CacheDeed L)) × (first : List L) × (second : List L) × (entries_of w ≡ (entries_of v ++ between) ++ Reaped first ∷ Reaped second ∷ [])
+HasReapedTwice {L} v w =
+    (between : List (CacheDeed L)) × (first : List L) × (second : List L)
+    × (entries_of w ≡ (entries_of v ++ between) ++ Reaped first ∷ Reaped second ∷ [])
 
 module _ {P F C B G L I X : Type 0} {H : Ghosts F X} where
   -- where a sweep was due: the dispatcher swept once, and where nothing stopped it, it reaped twice
-  pub record HasCleaned (old : Row P F C B G L I X H) (result : Option Halted) (new : Row P F C B G L I X H) : Type 0 where
+  pub record HasCleaned (old : Row P F C B G L I X H) (result : Option Halted)
+      (new : Row P F C B G L I X H) : Type 0 where
     pub swept : HasSweptOnce (calls_of (seen_of old.runner.timed)) (calls_of (seen_of new.runner.timed))
     pub reaped : result ≡ None → HasReapedTwice (view_of old.runner.cached) (view_of new.runner.cached)
 
   -- no call on the timeouts and on the cache was made
-  pub record HasLeftAlone (old : Row P F C B G L I X H) (result : Option Halted) (new : Row P F C B G L I X H) : Type 0 where
+  pub record HasLeftAlone (old : Row P F C B G L I X H) (result : Option Halted)
+      (new : Row P F C B G L I X H) : Type 0 where
     pub timed : new.runner.timed ≡ old.runner.timed
     pub cached : new.runner.cached ≡ old.runner.cached
     pub goes_on : result ≡ None
@@ -44,8 +52,10 @@ module _ {P F C B G L I X : Type 0} {H : Ghosts F X} where
   HasCleanedWhere true old result new = HasCleaned old result new
   HasCleanedWhere false old result new = HasLeftAlone old result new
 
-  -- The clock gave a moment, and exactly where a sweep was due at it, the dispatcher swept and reaped. It remembers the moment of the last sweep, and the seconds
-  pub record HasKept (clock : C → ClockTold) (beats : Beats F X H) (old : Row P F C B G L I X H) (result : Option Halted) (new : Row P F C B G L I X H) : Type 0 where
+  -- The clock gave a moment, and exactly where a sweep was due at it, the dispatcher swept and reaped. It
+  -- remembers the moment of the last sweep, and the seconds
+  pub record HasKept (clock : C → ClockTold) (beats : Beats F X H) (old : Row P F C B G L I X H)
+      (result : Option Halted) (new : Row P F C B G L I X H) : Type 0 where
     pub now : ℕ
     pub after : C
     pub gives : Gives (now ∷ []) (clock old.runner.clock) (clock after)
@@ -57,10 +67,13 @@ module _ {P F C B G L I X : Type 0} {H : Ghosts F X} where
     pub cleaned : HasCleanedWhere due old result new
 
   -- a beat: of a dispatcher that keeps no beats it does nothing
-  abbrev pub HasBeat : (C → ClockTold) → Option (Beats F X H) → Row P F C B G L I X H → Option Halted → Row P F C B G L I X H → Type 0
+  abbrev pub HasBeat : (C → ClockTold) → Option (Beats F X H) → Row P F C B G L I X H
+      → Option Halted → Row P F C B G L I X H → Type 0
   HasBeat clock None old result new = HasLeftAlone old result new
   HasBeat clock (Some beats) old result new = HasKept clock beats old result new
 
   -- a round begins with a beat, after which the dispatcher goes on
   abbrev pub BeginsWithBeat : (C → ClockTold) → Row P F C B G L I X H → Row P F C B G L I X H → Type 0
-  BeginsWithBeat clock old new = (result : Option Halted) × (between : Row P F C B G L I X H) × HasBeat clock old.beats old result between × HasGoneOn between new
+  BeginsWithBeat clock old new =
+      (result : Option Halted) × (between : Row P F C B G L I X H)
+      × HasBeat clock old.beats old result between × HasGoneOn between new

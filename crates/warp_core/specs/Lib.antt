@@ -1,5 +1,6 @@
 pub mod Beats
 pub mod Ends
+pub mod Events
 pub mod Journals
 pub mod Making
 pub mod Rows

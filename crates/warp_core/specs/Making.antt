@@ -11,13 +11,15 @@ use Rattle.warp_core.specs.Rows.{passes_of}
 
 module _ {P F C B G L I X : Type 0} {H : Ghosts F X} where
   -- a dispatcher calls what all share, and made no turn
-  pub record IsPlain (s : Shared (Job P F L I X) F X H) (limit : ℕ) (row : Row P F C B G L I X H) : Type 0 where
+  pub record IsPlain (s : Shared (Job P F L I X) F X H) (limit : ℕ)
+      (row : Row P F C B G L I X H) : Type 0 where
     pub shared : arc_value row.runner.shared ≡ s
     pub limit_is : row.runner.limit ≡ limit
     pub goes_on : row.halted ≡ None
 
   -- dispatchers were taken apart into these passes and kits
-  pub record HasParts (rows : List (Row P F C B G L I X H)) (passes : List (ServePass (Job P F L I X) F X H)) (kits : List (Kit P F C B G)) : Type 0 where
+  pub record HasParts (rows : List (Row P F C B G L I X H)) (passes : List (ServePass (Job P F L I X) F X H))
+      (kits : List (Kit P F C B G)) : Type 0 where
     pub passes_are : passes ≡ map passes_of rows
     pub books : map (λ kit. kit.book) kits ≡ map (λ row. row.runner.book) rows
     pub pollers : map (λ kit. kit.poller) kits ≡ map (λ row. row.runner.poller) rows

@@ -1,4 +1,5 @@
--- To be believed: a dispatcher between two turns. Its passes are of what all share, and a journal explains what it did.
+-- To be believed: a dispatcher between two turns. Its passes are of what all share, and
+-- a journal explains what it did.
 use Rattle.std.specs.Prelude.{◌≡◌, ℕ, ◌≤◌, List, [], Any, Option, Some, None}
 use Rattle.std.specs.Arc.{arc_value}
 use Rattle.outside.specs.declared.files.Files.{Ghosts}
@@ -19,12 +20,14 @@ use Rattle.warp_passes.specs.Passes.{PassView, PassRest, AreOf, pass_view, rest_
 use Rattle.warp_passes.specs.Levels.{HasPassGrown}
 use Rattle.warp_runner.specs.Acts.{ServeTold, told_of}
 use Rattle.warp_runner.specs.Journal.{Deed, DidOne, FitsUntil}
+use Rattle.warp_core.specs.Events.{KeepsEvents}
 use Rattle.warp_core.specs.Stops.{stops}
 use Rattle.warp_core.specs.declared.row.Row.{Row}
 use Rattle.warp_core.specs.declared.row.Halted.{Halted}
 use Rattle.warp_core.specs.declared.row.Halted.TheVariants as Halts
 
--- why a dispatcher makes no further turn, by how many polls and takings of a listener failed, and by what its pass knows of the tally: one of these failed, or it stopped with a code of which it told the tally
+-- why a dispatcher makes no further turn, by how many polls and takings of a listener failed, and by what its
+-- pass knows of the tally: one of these failed, or it stopped with a code of which it told the tally
 abbrev pub HaltsBy : ℕ → View TallyEntry → Option Halted → Type 0
 HaltsBy polls tally None = Unit {0}
 HaltsBy polls tally (Some Halts.PollFault) = 1 ≤ polls
@@ -41,7 +44,12 @@ stop_in (Some Halts.Spent) = None
 module _ {P F C B G L I X : Type 0} {H : Ghosts F X} where
   -- the passes of a dispatcher
   abbrev pub passes_of : Row P F C B G L I X H → ServePass (Job P F L I X) F X H
-  passes_of row = record { disp = row.disp; times = row.runner.timed; cache = row.runner.cached; tally = row.runner.tallied }
+  passes_of row = record {
+    disp = row.disp;
+    times = row.runner.timed;
+    cache = row.runner.cached;
+    tally = row.runner.tallied;
+  }
 
   -- what they know
   abbrev pub known_by : Row P F C B G L I X H → PassView (Lease F X H)
@@ -54,16 +62,24 @@ module _ {P F C B G L I X : Type 0} {H : Ghosts F X} where
 
   -- what is known of what it did
   abbrev pub told_by : (B → BookTold) → Row P F C B G L I X H → ServeTold
-  told_by told row = told_of (mgr_view row.disp.mgr) (view_of row.runner.tallied) (seen_of row.runner.timed) (told row.runner.book)
+  told_by told row =
+      told_of (mgr_view row.disp.mgr) (view_of row.runner.tallied) (seen_of row.runner.timed)
+      (told row.runner.book)
 
-  -- a dispatcher serves: its passes are of what all share, a journal explains all that it did, and where it makes no further turn it has a cause, which is a deed of that journal where it is a code
-  pub record Serves (told : B → BookTold) (faults : P → PollerFaults) (s : Shared (Job P F L I X) F X H) (row : Row P F C B G L I X H) : Type 0 where
+  -- a dispatcher serves: its passes are of what all share, a journal explains all that it did, and where it
+  -- makes no further turn it has a cause, which is a deed of that journal where it is a code. Of the events
+  -- that it got it lost none
+  pub record Serves (told : B → BookTold) (faults : P → PollerFaults) (s : Shared (Job P F L I X) F X H)
+      (row : Row P F C B G L I X H) : Type 0 where
     pub own : IsRowOf s row
     pub fits : FitsUntil row.runner.limit (stop_in row.halted) (told_by told row) []
     pub halts : HaltsBy (faults row.runner.poller).polls (view_of row.runner.tallied) row.halted
+    pub events : KeepsEvents (known_by row)
 
-  -- a dispatcher may make no further turn for this: where it is a code, a deed of its journal stopped with it, and where a poll failed, its poller says so
-  pub record MayHalt (told : B → BookTold) (faults : P → PollerFaults) (row : Row P F C B G L I X H) (halted : Halted) : Type 0 where
+  -- a dispatcher may make no further turn for this: where it is a code, a deed of its journal stopped with
+  -- it, and where a poll failed, its poller says so
+  pub record MayHalt (told : B → BookTold) (faults : P → PollerFaults) (row : Row P F C B G L I X H)
+      (halted : Halted) : Type 0 where
     pub stops : FitsUntil row.runner.limit (stop_in (Some halted)) (told_by told row) []
     pub faulted : halted ≡ Halts.PollFault → 1 ≤ (faults row.runner.poller).polls
 
@@ -71,7 +87,8 @@ module _ {P F C B G L I X : Type 0} {H : Ghosts F X} where
   abbrev pub OneDid : (B → BookTold) → ℕ → List (Row P F C B G L I X H) → (Deed → Type 0) → Type 0
   OneDid told limit rows Is = Any (λ row. DidOne limit Is (told_by told row)) rows
 
-  -- a dispatcher went on: its passes forgot nothing and have the seats that they had, and it serves as many links as before
+  -- a dispatcher went on: its passes forgot nothing and have the seats that they had, and it
+  -- serves as many links as before
   pub record HasGoneOn (old new : Row P F C B G L I X H) : Type 0 where
     pub passes : HasPassGrown (known_by old) (known_by new)
     pub limit : new.runner.limit ≡ old.runner.limit
@@ -86,4 +103,10 @@ pub record Beside : Type 0 where
 
 module _ {P F C B G L I X : Type 0} {H : Ghosts F X} where
   abbrev pub beside_of : (B → BookTold) → (P → PollerFaults) → Row P F C B G L I X H → Beside
-  beside_of told faults row = record { passes = rest_of (known_by row); book = told row.runner.book; limit = row.runner.limit; polls = (faults row.runner.poller).polls; halted = row.halted }
+  beside_of told faults row = record {
+    passes = rest_of (known_by row);
+    book = told row.runner.book;
+    limit = row.runner.limit;
+    polls = (faults row.runner.poller).polls;
+    halted = row.halted;
+  }

@@ -11,7 +11,8 @@ use Rattle.warp_core.specs.declared.row.Halted.{Halted}
 use Rattle.warp_core.specs.declared.row.Halted.TheVariants as Halts
 use Rattle.warp_core.specs.declared.served.Counts.{Counts}
 use Rattle.warp_core.specs.declared.served.ServeEnd.{ServeEnd}
-use Rattle.warp_core.specs.declared.served.ServeEnd.TheVariants.{Over, PollFault, AcceptFault, Spent, NoMemory}
+use Rattle.warp_core.specs.declared.served.ServeEnd.TheVariants.{Over, PollFault, AcceptFault, Spent}
+use Rattle.warp_core.specs.declared.served.ServeEnd.TheVariants.{NoMemory}
 
 -- a look showed that as many links were accepted as was to be, and that each is finished or was turned away
 pub record HasSeenOver (limit : ℕ) (counts : Counts) (v w : View TallyEntry) : Type 0 where
@@ -34,7 +35,8 @@ SaysSo limit None v w = Unit {0}
 -- the end where a dispatcher makes no further turn
 abbrev pub EndOf : Halted → ServeEnd → Type 0
 EndOf Halts.PollFault end = end ≡ PollFault
-EndOf (Halts.WithCode code) end = ((end ≡ AcceptFault) × (code ≡ 9)) ⊎ ((end ≡ NoMemory) × (code ≡ 6)) ⊎ (end ≡ Spent)
+EndOf (Halts.WithCode code) end =
+    ((end ≡ AcceptFault) × (code ≡ 9)) ⊎ ((end ≡ NoMemory) × (code ≡ 6)) ⊎ (end ≡ Spent)
 EndOf Halts.Spent end = end ≡ Spent
 
 module _ {A L : Type 0} (known : A → PassView L) where

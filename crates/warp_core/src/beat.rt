@@ -1,5 +1,5 @@
-//! The beat of a server: from time to time connections on which nothing happens are ended, and open files that
-//! nobody asks for are closed.
+//! The beat of a server: from time to time connections on which nothing happens are ended, and open files
+//! that nobody asks for are closed.
 ghost use Rattle.std.specs.Prelude.{◌≡◌, IfSome, None};
 ghost use Rattle.turn_cell.specs.Calls.{view_of};
 ghost use Rattle.timeout_mgr.specs.Calls.{view_of as seen_of};
@@ -42,8 +42,8 @@ impl<F: Files> Beats<F> {
         })
     }
 
-    /// Whether a sweep is due at this moment, which then is the moment of the last one. At the first moment none
-    /// is.
+    /// Whether a sweep is due at this moment, which then is the moment of the last one.
+    /// At the first moment none is.
     fn is_due(&mut self, now: u64) -> bool
         ensures due { IsDueAt self.old.seconds self.old.last now result self.new.last }
         ensures seconds { self.new.seconds ≡ self.old.seconds }
@@ -60,8 +60,8 @@ impl<F: Files> Beats<F> {
     }
 }
 
-/// Asks the clock, and sweeps where that is due, if the dispatcher keeps the beats. It answers why the dispatcher
-/// makes no further turn, if so.
+/// Asks the clock, and sweeps where that is due, if the dispatcher keeps the beats. It answers why the
+/// dispatcher makes no further turn, if so.
 pub(crate) fn beat<P: Poller, F: Files, C: Clock, B: Book<Finished<P::Link, F>>, G: Gate, R: Wait>(
     rt: &R,
     shared: &Shared<Job<P, F>, F>,
@@ -86,8 +86,8 @@ pub(crate) fn beat<P: Poller, F: Files, C: Clock, B: Book<Finished<P::Link, F>>,
     halted
 }
 
-/// Ends the connections on which nothing happened since the last sweep, and closes each file that nobody uses at
-/// this moment. What keeps the beats comes back.
+/// Ends the connections on which nothing happened since the last sweep, and closes each file that nobody uses
+/// at this moment. What keeps the beats comes back.
 fn clean<P: Poller, F: Files, C: Clock, B: Book<Finished<P::Link, F>>, G: Gate, R: Wait>(
     rt: &R,
     shared: &Shared<Job<P, F>, F>,
@@ -141,7 +141,8 @@ fn sweep<P: Poller, F: Files, C: Clock, B: Book<Finished<P::Link, F>>, G: Gate, 
     ensures serves { Serves B.told P.meaning.faults shared.now row.new }
     ensures goes_on { HasGoneOn row.old row.new }
     ensures may_halt { IfSome result (λ halted. MayHalt B.told P.meaning.faults row.new halted) }
-    ensures swept { HasSweptOnce (calls_of (seen_of row.old.runner.timed)) (calls_of (seen_of row.new.runner.timed)) }
+    ensures swept { HasSweptOnce (calls_of (seen_of row.old.runner.timed))
+        (calls_of (seen_of row.new.runner.timed)) }
 {
     match row
         .runner
@@ -166,7 +167,8 @@ fn reap_twice<P: Poller, F: Files, C: Clock, B: Book<Finished<P::Link, F>>, G: G
     ensures goes_on { HasGoneOn row.old row.new }
     ensures may_halt { IfSome result.0 (λ halted. MayHalt B.told P.meaning.faults row.new halted) }
     ensures timed { row.new.runner.timed ≡ row.old.runner.timed }
-    ensures reaped { result.0 ≡ None → HasReapedTwice (view_of row.old.runner.cached) (view_of row.new.runner.cached) }
+    ensures reaped { result.0 ≡ None
+        → HasReapedTwice (view_of row.old.runner.cached) (view_of row.new.runner.cached) }
 {
     let (halted, basket) = reap(rt, shared, row, basket);
     match halted {
@@ -187,7 +189,8 @@ fn reap<P: Poller, F: Files, C: Clock, B: Book<Finished<P::Link, F>>, G: Gate, R
     ensures goes_on { HasGoneOn row.old row.new }
     ensures may_halt { IfSome result.0 (λ halted. MayHalt B.told P.meaning.faults row.new halted) }
     ensures timed { row.new.runner.timed ≡ row.old.runner.timed }
-    ensures reaped { result.0 ≡ None → HasReaped (view_of row.old.runner.cached) (view_of row.new.runner.cached) }
+    ensures reaped { result.0 ≡ None
+        → HasReaped (view_of row.old.runner.cached) (view_of row.new.runner.cached) }
 {
     let mut basket = basket;
     // It is empty, which the proof wants to see.

@@ -38,7 +38,8 @@ pub(crate) fn rows_of<
     requires count { length passes.items ≡ length kits.items }
     requires new { AreNewPasses (arc_value shared.now) passes.items }
     requires books { All (λ kit. IsBookOf [] (B.told kit.book)) kits.items }
-    ensures serve { IfOk result (λ rows. All (λ row. Serves B.told P.meaning.faults (arc_value shared.now) row) rows.items) }
+    ensures serve { IfOk result
+        (λ rows. All (λ row. Serves B.told P.meaning.faults (arc_value shared.now) row) rows.items) }
     ensures limit { IfOk result (λ rows. All (λ row. row.runner.limit ≡ limit) rows.items) }
     ensures passes { IfOk result (λ rows. map passes_of rows.items ≡ passes.items) }
 {
@@ -120,8 +121,8 @@ fn row_of<P: Poller + Drop, F: Files + Drop, C: Drop, B: Drop, G: Drop>(
     })
 }
 
-/// What dispatchers are taken apart into: their passes and their kits, each at the dispatcher's place, and the
-/// listener, where one of them gave it back.
+/// What dispatchers are taken apart into: their passes and their kits, each at the dispatcher's place, and
+/// the listener, where one of them gave it back.
 #[derive(Drop)]
 pub(crate) struct Parts<P: Poller, F: Files, C, B, G> {
     pub(crate) passes: Vec<ServePass<Job<P, F>, F>>,
@@ -130,13 +131,14 @@ pub(crate) struct Parts<P: Poller, F: Files, C, B, G> {
 }
 
 impl<P: Poller + Drop, F: Files + Drop, C: Drop, B: Drop, G: Drop> Parts<P, F, C, B, G> {
-    /// Nothing yet, with room for so many dispatchers.
+    /// Nothing yet, with room for this many dispatchers.
     pub(crate) fn with_capacity(
         alloc: Global,
         count: usize,
     ) -> Result<Parts<P, F, C, B, G>, AllocError>
         ensures empty { IfOk result (λ parts. (parts.passes.items ≡ []) × (parts.kits.items ≡ [])) }
-        ensures room { IfOk result (λ parts. (count ≤ vec_capacity parts.passes) × (count ≤ vec_capacity parts.kits)) }
+        ensures room { IfOk result
+            (λ parts. (count ≤ vec_capacity parts.passes) × (count ≤ vec_capacity parts.kits)) }
     {
         Ok(Parts {
             passes: Vec::with_capacity(alloc, count)?,
@@ -148,7 +150,8 @@ impl<P: Poller + Drop, F: Files + Drop, C: Drop, B: Drop, G: Drop> Parts<P, F, C
     /// Takes dispatchers apart.
     pub(crate) fn fill(self, rows: Vec<Row<P, F, C, B, G>>) -> Parts<P, F, C, B, G>
         requires empty { (self.passes.items ≡ []) × (self.kits.items ≡ []) }
-        requires room { (length rows.items ≤ vec_capacity self.passes) × (length rows.items ≤ vec_capacity self.kits) }
+        requires room { (length rows.items ≤ vec_capacity self.passes)
+            × (length rows.items ≤ vec_capacity self.kits) }
         ensures { HasParts rows.items result.passes.items result.kits.items }
     {
         let Parts {

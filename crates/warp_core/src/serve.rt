@@ -9,6 +9,7 @@ ghost use Rattle.warp_passes.specs.Levels.{ArePassesLevel};
 ghost use Rattle.warp_passes.specs.Passes.{AreOf, pass_view};
 ghost use Rattle.warp_core.specs.declared.row.Halted.TheVariants as Halts;
 ghost use Rattle.warp_core.specs.Ends.{EndsSo, HasCause};
+ghost use Rattle.warp_core.specs.Events.{KeepAllEvents};
 ghost use Rattle.warp_core.specs.Journals.{AreExplained, SomeDid};
 ghost use Rattle.warp_core.specs.Rows.{HasGoneOn, OneDid, Serves, known_by, stop_in};
 
@@ -20,24 +21,26 @@ use crate::turns::{halt, serve_row};
 use fd_cache::Lease;
 use outside::{Clock, Files};
 use poller::Poller;
+use reg_keys::legal_stripes_happen_once;
 use std::alloc::{AllocError, Global};
 use std::sync::{Arc, Wait};
 use std::thread::{Threads, for_each_mut};
 use warp_books::{Book, Finished};
 use warp_jobs::{Gate, Job, Kit};
 use warp_passes::{
-    ServePass, Shared, grown_passes_hold_the_seats, moved_passes_hold_the_seats, shared_among,
+    ServePass, Shared, grown_passes_hold_the_seats, level_passes_add_up,
+    moved_passes_hold_the_seats, shared_among,
 };
 use warp_runner::POLL_FAULT;
 
 /// How many dispatchers are turned side by side at most.
 const THREADS: usize = 64;
 
-/// Serves what the listener gives, with one dispatcher for each kit, until `limit` links were accepted and each is
-/// finished, or a dispatcher stops. Every `seconds` connections on which nothing happened are ended.
+/// Serves what the listener gives, with one dispatcher for each kit, until `limit` links were accepted and
+/// each is finished, or a dispatcher stops. Every `seconds` connections on which nothing happened are ended.
 ///
-/// The caller owes 1 to 64 kits whose books are empty, a listener with no failed accept behind it, and a `limit`
-/// and `seconds` of 1 or more. An error is want of memory for what the dispatchers share.
+/// The caller owes 1 to 64 kits whose books are empty, a listener with no failed accept behind it, and a
+/// `limit` and `seconds` of 1 or more. An error is want of memory for what the dispatchers share.
 pub fn serve_loop<P, F, C, B, G, R>(
     rt: &R,
     alloc: Global,
@@ -60,16 +63,23 @@ where
     requires books { All (λ kit. IsBookOf [] (B.told kit.book)) kits.items }
     requires listener { (P.Listener.told listener).failed_row ≡ 0 }
     requires least { (0 < limit) × (0 < seconds) }
-    ensures own { IfOk result (λ served. All (λ pass. AreOf (arc_value served.shared) pass) served.passes.items) }
+    ensures own { IfOk result
+        (λ served. All (λ pass. AreOf (arc_value served.shared) pass) served.passes.items) }
     ensures level { IfOk result (λ served. ArePassesLevel pass_view served.passes.items) }
-    ensures explained { IfOk result (λ served. AreExplained B.told limit served.passes.items served.kits.items) }
+    ensures events { IfOk result (λ served. KeepAllEvents pass_view served.passes.items) }
+    ensures explained { IfOk result
+        (λ served. AreExplained B.told limit served.passes.items served.kits.items) }
     ensures count { IfOk result (λ served. length served.kits.items ≡ length kits.items) }
-    ensures ends { IfOk result (λ served. EndsSo pass_view limit served.end served.passes.items (weigh (λ kit. (P.meaning.faults kit.poller).polls) served.kits.items)) }
-    ensures cause { IfOk result (λ served. HasCause served.end (SomeDid B.told limit served.passes.items served.kits.items)) }
+    ensures ends { IfOk result (λ served. EndsSo pass_view limit served.end served.passes.items
+        (weigh (λ kit. (P.meaning.faults kit.poller).polls) served.kits.items)) }
+    ensures cause { IfOk result
+        (λ served. HasCause served.end (SomeDid B.told limit served.passes.items served.kits.items)) }
     ensures same { IfOk result (λ served. (served.limit ≡ limit) × (served.seconds ≡ seconds)) }
 {
-    // A law of seats, for the proof: it does nothing when run.
+    // Laws of seats, of level passes and of histories, for the proof: they do nothing when run.
     moved_passes_hold_the_seats::<ServePass<Job<P, F>, F>, Row<P, F, C, B, G>, Lease<F>>();
+    level_passes_add_up::<ServePass<Job<P, F>, F>, Lease<F>>();
+    legal_stripes_happen_once();
     let count = kits.len();
     let parts = Parts::with_capacity(alloc, count)?;
     let (shared, passes) = shared_among(alloc, count)?;
@@ -115,10 +125,12 @@ where
     requires limit { All (λ row. row.runner.limit ≡ limit) rows.old }
     requires new { SeatsAreOnce known_by rows.old × All (λ row. row.disp.hand ≡ []) rows.old }
     requires listener { (P.Listener.told listener).failed_row ≡ 0 }
-    ensures serve { All (λ row. Serves B.told P.meaning.faults shared.now row) rows.new × All (λ row. row.runner.limit ≡ limit) rows.new }
+    ensures serve { All (λ row. Serves B.told P.meaning.faults shared.now row) rows.new
+        × All (λ row. row.runner.limit ≡ limit) rows.new }
     ensures level { ArePassesLevel known_by rows.new }
     ensures cause { HasCause result (OneDid B.told limit rows.new) }
-    ensures ends { EndsSo known_by limit result rows.new (weigh (λ row. (P.meaning.faults row.runner.poller).polls) rows.new) }
+    ensures ends { EndsSo known_by limit result rows.new
+        (weigh (λ row. (P.meaning.faults row.runner.poller).polls) rows.new) }
 {
     begin(rt, shared, rows, listener);
     serve_on(rt, shared, rows, limit)
@@ -208,7 +220,8 @@ where
     ensures limit { All (λ row. row.runner.limit ≡ limit) rows.new }
     ensures level { ArePassesLevel known_by rows.new }
     ensures cause { HasCause result (OneDid B.told limit rows.new) }
-    ensures ends { EndsSo known_by limit result rows.new (weigh (λ row. (P.meaning.faults row.runner.poller).polls) rows.new) }
+    ensures ends { EndsSo known_by limit result rows.new
+        (weigh (λ row. (P.meaning.faults row.runner.poller).polls) rows.new) }
 {
     for _ in rt.forever() {
         if let Some(end) = settle(rt, shared, rows, limit) {

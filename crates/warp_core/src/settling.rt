@@ -47,7 +47,8 @@ pub(crate) fn settle<
     ensures seats { SeatsAreOnce known_by rows.new }
     ensures level { ArePassesLevel known_by rows.new }
     ensures cause { IfSome result (λ end. HasCause end (OneDid B.told limit rows.new)) }
-    ensures ends { IfSome result (λ end. EndsSo known_by limit end rows.new (weigh (λ row. (P.meaning.faults row.runner.poller).polls) rows.new)) }
+    ensures ends { IfSome result (λ end. EndsSo known_by limit end rows.new
+        (weigh (λ row. (P.meaning.faults row.runner.poller).polls) rows.new)) }
 {
     let over = show_over(rt, shared, rows, limit);
     match first_halt(rows) {
@@ -123,8 +124,8 @@ fn look_first<P: Poller, F: Files, C: Clock, B: Book<Finished<P::Link, F>>, G: G
     look_for_over(rt, shared, row, limit)
 }
 
-/// Whether a look at the tally shows that as many links were accepted as was to be, and that each is finished or
-/// was turned away.
+/// Whether a look at the tally shows that as many links were accepted as was to be, and that each
+/// is finished or was turned away.
 fn look_for_over<P: Poller, F: Files, C: Clock, B: Book<Finished<P::Link, F>>, G: Gate, R: Wait>(
     rt: &R,
     shared: &Shared<Job<P, F>, F>,

@@ -123,8 +123,8 @@ fn turn_once<P: Poller, F: Files, C: Clock, B: Book<Finished<P::Link, F>>, G: Ga
     }
 }
 
-/// The dispatcher makes no further turn. The tally keeps the code if it is the first, so that the others see it. A
-/// code that is given here is one with which a deed of the dispatcher stopped it.
+/// The dispatcher makes no further turn. The tally keeps the code if it is the first, so that the others see
+/// it. A code that is given here is one with which a deed of the dispatcher stopped it.
 pub(crate) fn halt<P: Poller, F: Files, C: Clock, B: Book<Finished<P::Link, F>>, G: Gate, R: Wait>(
     rt: &R,
     shared: &Shared<Job<P, F>, F>,

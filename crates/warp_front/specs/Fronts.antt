@@ -35,14 +35,19 @@ pub record IsUnheard (listener : ListenerTold) : Type 0 where
   pub faults : listener.faults ≡ 0
   pub failed_row : listener.failed_row ≡ 0
 
--- a call to listen: where it failed, the count of faults rose, which never falls; what was asked is kept, unless memory was wanted
+-- a call to listen: where it failed, the count of faults rose, which never falls; what was asked is
+-- kept, unless memory was wanted
 abbrev pub AskedToListen : {X : Type 0} → ListenOut X → List ℕ → ℕ → (old new : FrontTold) → Type 0
-AskedToListen (Listens.Listening listener) address port old new = new ≡ record old { place = Some (address, port) }
-AskedToListen Listens.Failed address port old new = Rises old.faults new.faults × (new ≡ record old { place = Some (address, port); faults = new.faults })
+AskedToListen (Listens.Listening listener) address port old new =
+    new ≡ record old { place = Some (address, port) }
+AskedToListen Listens.Failed address port old new =
+    Rises old.faults new.faults × (new ≡ record old { place = Some (address, port); faults = new.faults })
 AskedToListen Listens.NoMemory address port old new = new ≡ old
 
--- a call for kits: where it failed, the count of faults rose; what was asked is kept, unless memory was wanted
+-- a call for kits: where it failed, the count of faults rose; what was asked is kept,
+-- unless memory was wanted
 abbrev pub AskedForKits : {K : Type 0} → KitsOut K → List ℕ → (old new : FrontTold) → Type 0
 AskedForKits (Kits.Made kits) root old new = new ≡ record old { root = Some root }
-AskedForKits Kits.Failed root old new = Rises old.faults new.faults × (new ≡ record old { root = Some root; faults = new.faults })
+AskedForKits Kits.Failed root old new =
+    Rises old.faults new.faults × (new ≡ record old { root = Some root; faults = new.faults })
 AskedForKits Kits.NoMemory root old new = new ≡ old

@@ -1,4 +1,4 @@
-// What a server asks for before it serves. What contracts know of a front is one record.
+//! What a server asks for before it serves. What contracts know of a front is one record.
 ghost use Rattle.std.specs.Prelude.{◌≡◌, ◌<◌, ◌≤◌, [], All, length};
 ghost use Rattle.warp_books.specs.Books.{IsBookOf};
 ghost use Rattle.warp_books.specs.EndCounts.{book_told};
@@ -53,7 +53,7 @@ pub trait Front {
         ensures unheard { IfListening result (λ listener. IsUnheard (Self.Poller.Listener.told listener)) }
         ensures asked { AskedToListen result address port (told self.old) (told self.new) };
 
-    /// Makes so many kits, whose files lie below the root.
+    /// Makes this many kits, whose files lie below the root.
     fn kits(
         &mut self,
         root: &str,

@@ -1,4 +1,4 @@
-// A front for commands that need none.
+//! A front for commands that need none.
 
 use crate::front::{Front, KitsOut, ListenOut};
 use outside::{Clock, Files};

@@ -12,15 +12,22 @@ use Rattle.warp_books.specs.EndCounts.{book_told}
 
 module _ {F C G : Type 0} where
   -- its book is empty too
-  pub more_books : (kits more : List (Kit PiecePoller F C SumBook G)) (kit : Kit PiecePoller F C SumBook G) → more ≡ kits ++ kit ∷ []
-      → All (λ kit. IsBookOf [] (book_told kit.book)) kits → IsBookOf [] (book_told kit.book) → All (λ kit. IsBookOf [] (book_told kit.book)) more
+  pub more_books : (kits more : List (Kit PiecePoller F C SumBook G)) (kit : Kit PiecePoller F C SumBook G)
+      → more ≡ kits ++ kit ∷ []
+      → All (λ kit. IsBookOf [] (book_told kit.book)) kits → IsBookOf [] (book_told kit.book)
+      → All (λ kit. IsBookOf [] (book_told kit.book)) more
   more_books kits more kit is all one =
-      subst (λ (xs : List (Kit PiecePoller F C SumBook G)). All (λ kit. IsBookOf [] (book_told kit.book)) xs) (sym is)
+      subst (λ (xs : List (Kit PiecePoller F C SumBook G)). All (λ kit. IsBookOf [] (book_told kit.book)) xs)
+      (sym is)
       (All-push (λ (kit : Kit PiecePoller F C SumBook G). IsBookOf [] (book_told kit.book)) kits kit all one)
 
   -- its files lie below the root too
-  pub more_rooted : (told : F → FilesTold) (root : List ℕ) (kits more : List (Kit PiecePoller F C SumBook G)) (kit : Kit PiecePoller F C SumBook G) → more ≡ kits ++ kit ∷ []
-      → All (λ kit. IsRootedAt root (told kit.files)) kits → IsRootedAt root (told kit.files) → All (λ kit. IsRootedAt root (told kit.files)) more
+  pub more_rooted : (told : F → FilesTold) (root : List ℕ)
+      (kits more : List (Kit PiecePoller F C SumBook G)) (kit : Kit PiecePoller F C SumBook G)
+      → more ≡ kits ++ kit ∷ []
+      → All (λ kit. IsRootedAt root (told kit.files)) kits → IsRootedAt root (told kit.files)
+      → All (λ kit. IsRootedAt root (told kit.files)) more
   more_rooted told root kits more kit is all one =
-      subst (λ (xs : List (Kit PiecePoller F C SumBook G)). All (λ kit. IsRootedAt root (told kit.files)) xs) (sym is)
+      subst (λ (xs : List (Kit PiecePoller F C SumBook G)). All (λ kit. IsRootedAt root (told kit.files)) xs)
+      (sym is)
       (All-push (λ (kit : Kit PiecePoller F C SumBook G). IsRootedAt root (told kit.files)) kits kit all one)

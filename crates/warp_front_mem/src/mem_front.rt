@@ -22,7 +22,8 @@ struct Place {
     port: u16,
 }
 
-/// What a server begins with, in memory: a listener, which it hands out once, and kits, which it hands out in order.
+/// What a server begins with, in memory: a listener, which it hands out once, and kits,
+/// which it hands out in order.
 #[derive(Drop)]
 pub struct MemFront<F, C, G> {
     alloc: Global,

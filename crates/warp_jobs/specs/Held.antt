@@ -4,7 +4,7 @@ use Rattle.reg_keys.specs.declared.opening.Opening.{Opening}
 use Rattle.outside.specs.Causes.{LinkTold}
 use Rattle.outside.specs.Folder.{Folder}
 use Rattle.app_trait.specs.FolderMoves.{folder_move}
-use Rattle.conn_loop.specs.Standing.{Standing, Represents, Counted}
+use Rattle.conn_loop.specs.ConnState.{ConnState, Represents, Counted}
 use Rattle.timeout_mgr.specs.declared.view.WatchName.{WatchName}
 use Rattle.warp_books.specs.declared.finish.Finish.TheVariants.{Ended}
 use Rattle.warp_books.specs.Truth.{IsTrueTo, finished_of, folder_serving}
@@ -15,14 +15,17 @@ pub record Held : Type 0 where
   -- what its link tells
   pub link : LinkTold
   -- how far it was brought
-  pub conn : Standing
+  pub conn : ConnState
   -- the watch over it
   pub watch : WatchName
-  -- the number of its next registration, the first one's being nought
+  -- the number of its next registration, the first one's being zero
   pub number : ℕ
 
--- What the type of a connection's job keeps: it stands for what its link has taken and sent, its counts are the link's, the link had to be waited for as often as it was registered again, and where it is over, its end is true
-pub record IsHeld (folder : Option Folder) (o : Opening) (link : LinkTold) (c : Standing) (n : ℕ) : Type 0 where
+-- What the type of a connection's job keeps: it stands for what its link has taken and sent, its
+-- counts are the link's, the link had to be waited for as often as it was registered again, and
+-- where it is over, its end is true
+pub record IsHeld (folder : Option Folder) (o : Opening) (link : LinkTold) (c : ConnState)
+    (n : ℕ) : Type 0 where
   pub represents : Represents folder_move folder c link
   pub counted : Counted c link
   pub waits : c.waits ≡ n

@@ -1,5 +1,6 @@
 -- To be believed: what each call on a connection's job leaves of it.
-use Rattle.std.specs.Prelude.{◌≡◌, ◌≢◌, ◌⊎◌, ◌↔◌, ℕ, ◌+◌, ◌≤◌, ◌<◌, ◌^◌, ◌-◌, List, Option, Some, None, IfSome}
+use Rattle.std.specs.Prelude.{◌≡◌, ◌≢◌, ◌⊎◌, ◌↔◌, ℕ, ◌+◌, ◌≤◌, ◌<◌, ◌^◌, ◌-◌, List, Option, Some, None}
+use Rattle.std.specs.Prelude.{IfSome}
 use Rattle.reg_keys.specs.declared.opening.Opening.{Opening}
 use Rattle.reg_keys.specs.declared.registration.Dir.{Dir}
 use Rattle.reg_keys.specs.declared.registration.Dir.TheVariants.{Read, Write}
@@ -9,7 +10,7 @@ use Rattle.conn_loop.specs.declared.step.End.{End}
 use Rattle.conn_loop.specs.declared.step.End.TheVariants.{NoMemory}
 use Rattle.conn_loop.specs.declared.step.Step.TheVariants.{WantRead, WantWrite}
 use Rattle.conn_loop.specs.Causes.{Clocked, CountsWaits}
-use Rattle.conn_loop.specs.Standing.{Standing, IsAsking, at_first}
+use Rattle.conn_loop.specs.ConnState.{ConnState, IsAsking, at_first}
 use Rattle.conn_loop.specs.Steps.{to_go}
 use Rattle.conn_loop.specs.Supplies.{GivesLease}
 use Rattle.timeout_mgr.specs.declared.view.WatchName.{WatchName}
@@ -24,7 +25,8 @@ use Rattle.warp_jobs.specs.Held.{Held}
 abbrev pub first_held : Opening → LinkTold → WatchName → Held
 first_held o link w = record { opening = o; link = link; conn = at_first; watch = w; number = 0 }
 
--- the number of the next registration, once a connection came so far: one more where its link must be waited for
+-- the number of the next registration, once a connection came so far: one more where its
+-- link must be waited for
 abbrev pub number_after : Went → ℕ → ℕ
 number_after (Waits dir) n = n + 1
 number_after Asks n = n
@@ -37,8 +39,9 @@ WaitedSo (Waits Write) link later = CountsWaits WantWrite link later
 WaitedSo Asks link later = later.waits ≡ link.waits
 WaitedSo (Over end) link later = end ≢ NoMemory → later.waits ≡ link.waits
 
--- how a connection stands that came so far: a file is asked for exactly where it says so, and its own end is the one that is answered, or the answer is want of memory
-abbrev pub StandsSo : Went → Standing → Type 0
+-- how a connection stands that came so far: a file is asked for exactly where it says so, and its own end is
+-- the one that is answered, or the answer is want of memory
+abbrev pub StandsSo : Went → ConnState → Type 0
 StandsSo (Waits dir) c = ¬ IsAsking c
 StandsSo Asks c = IsAsking c
 StandsSo (Over end) c = (¬ IsAsking c) × (end ≢ NoMemory → c.over ≡ Some end)
@@ -56,7 +59,8 @@ pub record HasGone (went : Went) (h k : Held) (clock after : ClockTold) : Type 0
 
 -- what was found came to the connection: its next steps go on from there, and nothing else changed
 pub record HasSupplied (h k : Held) : Type 0 where
-  pub same : k ≡ record h { conn = record h.conn { stage = k.conn.stage; lease = k.conn.lease; entry = k.conn.entry } }
+  pub same : k
+      ≡ record h { conn = record h.conn { stage = k.conn.stage; lease = k.conn.lease; entry = k.conn.entry } }
   pub told : ¬ IsAsking k.conn
   pub nearer : to_go k.conn < to_go h.conn
 
@@ -66,15 +70,18 @@ pub record HasGivenLease (given : Option (List ℕ)) (entry : Option ℕ) (h k :
   pub gives : GivesLease given entry h.conn k.conn
 
 -- a connection may be finished so: it is over with this end, or the end says nothing of its bytes
-abbrev pub MayFinish : Finish → Standing → Type 0
+abbrev pub MayFinish : Finish → ConnState → Type 0
 MayFinish (Ended end) c = (end ≢ NoMemory) → c.over ≡ Some end
 MayFinish TimedOut c = Unit {0}
 MayFinish (TurnedAway cause) c = Unit {0}
 
 -- a wait was counted, where the count isn't at its end
 abbrev pub HasCounted : Dir → Went → ℕ → ℕ → Type 0
-HasCounted dir went n m = ((went ≡ Waits dir) × (m ≡ n + 1) × (n < 2 ^ 64 - 1)) ⊎ ((went ≡ Over NoMemory) × (m ≡ n) × (n ≡ 2 ^ 64 - 1))
+HasCounted dir went n m =
+    ((went ≡ Waits dir) × (m ≡ n + 1) × (n < 2 ^ 64 - 1))
+    ⊎ ((went ≡ Over NoMemory) × (m ≡ n) × (n ≡ 2 ^ 64 - 1))
 
 -- a finished connection by its parts
 abbrev pub finished_as : Opening → LinkTold → List ℕ → ℕ → ℕ → Finish → FinishedTold
-finished_as o link moments bytes waits end = record { opening = o; link = link; moments = moments; bytes = bytes; waits = waits; end = end }
+finished_as o link moments bytes waits end =
+    record { opening = o; link = link; moments = moments; bytes = bytes; waits = waits; end = end }

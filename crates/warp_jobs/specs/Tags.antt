@@ -21,7 +21,8 @@ abbrev pub entry_list : Option ℕ → List ℕ
 entry_list None = []
 entry_list (Some k) = k ∷ []
 
--- The tag of a connection's job: its opening, the number of this registration, the watch over it, the entry of the lease that it holds, the moments of its answers so far, and its link's plan
+-- The tag of a connection's job: its opening, the number of this registration, the watch over it, the entry
+-- of the lease that it holds, the moments of its answers so far, and its link's plan
 abbrev pub serve_tag : Held → List (List ℕ)
 serve_tag h =
     (h.opening.number ∷ h.opening.fd ∷ [])
@@ -32,9 +33,11 @@ serve_tag h =
     ∷ plan_list h.link.plan
     ∷ []
 
--- The tag of the listener's job: its opening, how many links it gave, the place of its next link among the plans, and the plans. Its first list has four numbers, and that of a connection two
+-- The tag of the listener's job: its opening, how many links it gave, the place of its next link among the
+-- plans, and the plans. Its first list has four numbers, and that of a connection two
 abbrev pub listen_tag : HeldListener → List (List ℕ)
-listen_tag h = (h.opening.number ∷ h.opening.fd ∷ h.accepted ∷ h.listener.accepted ∷ []) ∷ plan_lists h.listener.plans
+listen_tag h =
+    (h.opening.number ∷ h.opening.fd ∷ h.accepted ∷ h.listener.accepted ∷ []) ∷ plan_lists h.listener.plans
 
 -- the tag of a job
 abbrev pub tag_of : {P F L M X : Type 0} → Job P F L M X → List (List ℕ)

@@ -5,11 +5,16 @@
 //! that the connection stands for what its link has taken and sent.
 #![tactic(auto)]
 
-mod gate;
-mod job;
-mod kit;
+// What a job holds.
 mod listening;
 mod session;
+
+// A job.
+mod job;
+
+// What a dispatcher is given.
+mod gate;
+mod kit;
 
 pub use gate::{FreeGate, Gate};
 pub use job::Job;

@@ -7,7 +7,7 @@ use outside::{AcceptOut, Listener};
 use reg_keys::Opening;
 use std::marker::Model;
 
-/// After so many accepts in a row that failed, a server stops.
+/// After this many accepts in a row that failed, a server stops.
 pub const FAILED_ROW: u64 = 1_000;
 
 /// The listener that connections come from, its opening, and how many links it gave.
@@ -72,7 +72,8 @@ impl<I: Listener> Listening<I> {
     /// Gives the next link, if one is there.
     pub fn accept(&mut self) -> AcceptOut<I::Link>
         ensures untouched { IfAccepted result (λ link. IsUntouched (I.Link.told link)) }
-        ensures planned { IfAccepted result (λ link. IsPlannedAt self.old.listener.plans self.old.listener.accepted (I.Link.told link).plan) }
+        ensures planned { IfAccepted result
+            (λ link. IsPlannedAt self.old.listener.plans self.old.listener.accepted (I.Link.told link).plan) }
         ensures listened { HasListened result self.old self.new }
     {
         let result = self.listener.accept();

@@ -4,11 +4,12 @@ ghost use Rattle.outside.specs.ListenCauses.{IsUntouched};
 ghost use Rattle.fd_cache.specs.Calls.{entry_held, entry_of};
 ghost use Rattle.app_trait.specs.FolderMoves.{folder_move};
 ghost use Rattle.conn_loop.specs.Causes.{ReadsOnly};
-ghost use Rattle.conn_loop.specs.Standing.{Represents, IsAsking, path_asked, at_first};
+ghost use Rattle.conn_loop.specs.ConnState.{Represents, IsAsking, path_asked, at_first};
 ghost use Rattle.conn_loop.specs.Steps.{to_go};
 ghost use Rattle.conn_loop.specs.Supplies.{Supplies, Holds, GivesLease};
 ghost use Rattle.timeout_mgr.specs.Calls.{name_of_watch};
 ghost use Rattle.warp_books.specs.Truth.{finished_of};
+ghost use Rattle.warp_jobs.specs.Held.{IsHeld};
 ghost use Rattle.warp_jobs.specs.Sessions.{HasGone, MayFinish, HasSupplied, HasGivenLease, HasCounted, finished_as, first_held};
 
 use app_trait::FolderApp;
@@ -94,6 +95,14 @@ impl<L: Link, F: Files> Session<L, F> {
         self.opening
     }
 
+    /// What its type keeps of it, as a theorem: it does nothing when run.
+    pub fn keeps_its_counts(&self)
+        ensures { IsHeld F.folder self.now.opening self.now.link self.now.conn self.now.number }
+    {
+        // A field is read, so that the proof sees what the type keeps.
+        let _number = self.number;
+    }
+
     /// The watch over it.
     pub fn watch(&self) -> &Watch
         ensures { name_of_watch result.now ≡ self.now.watch }
@@ -142,19 +151,22 @@ impl<L: Link, F: Files> Session<L, F> {
 
     /// Gives a lease back that it doesn't need any more.
     pub fn spent_lease(&mut self) -> Option<Lease<F>>
-        ensures { HasGivenLease (option_map (λ lease. F.file_path lease.file) result) (entry_held result) self.old self.new }
+        ensures { HasGivenLease (option_map (λ lease. F.file_path lease.file) result)
+            (entry_held result) self.old self.new }
     {
         self.conn.spent_lease()
     }
 
-    /// Finishes the connection: it ended so. The caller owes that it is over with that end, or that the end says
-    /// nothing of its bytes.
+    /// Finishes the connection: it ended so. The caller owes that it is over with that end, or that the
+    /// end says nothing of its bytes.
     pub fn finish(self, end: Finish) -> Parts<L, F>
         requires { MayFinish end self.conn }
         ensures watch { name_of_watch result.watch ≡ self.watch }
         ensures lease { option_map (λ lease. F.file_path lease.file) result.lease ≡ self.conn.lease }
         ensures entry { entry_held result.lease ≡ self.conn.entry }
-        ensures done { finished_as result.done.opening (L.told result.done.link) result.done.moments.items result.done.bytes result.done.waits result.done.end ≡ finished_of self.opening self.link self.conn end }
+        ensures done { finished_as result.done.opening (L.told result.done.link)
+            result.done.moments.items result.done.bytes result.done.waits result.done.end
+            ≡ finished_of self.opening self.link self.conn end }
     {
         given_up_connections_are_true();
         let Session {

@@ -3,7 +3,7 @@ ghost use Rattle.outside.specs.ListenCauses.{IsUntouched};
 
 mod listeners;
 
-use super::*;
+use crate::{Parts, Session, Went};
 use conn_loop::{Conn, End, Scratch};
 use outside::{Files, Link, MemClock, MemFiles, PieceLink, ReadEvent};
 use reg_keys::{Dir, Opening};

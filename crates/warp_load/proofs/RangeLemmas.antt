@@ -9,7 +9,8 @@ use Rattle.warp_load.specs.LoadRanges.{HasRanges, is_load}
 pub at_most : (m n : ℕ) → nat_le m n ≡ true → m ≤ n
 at_most m n test = grind (arith, nat_tests)
 
-pub ranges : (seed connections requests : ℕ) → IsTrue (is_load seed connections requests) → HasRanges seed connections requests
+pub ranges : (seed connections requests : ℕ) → IsTrue (is_load seed connections requests)
+    → HasRanges seed connections requests
 ranges seed connections requests load =
     let three = and_parts _ _ load in
     let two = and_parts _ _ three.0 in

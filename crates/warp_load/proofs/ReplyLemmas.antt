@@ -1,5 +1,6 @@
 -- What is replied to each request of the load, and how long its answer is.
-use Rattle.std.proofs.Common.{◌≡◌, ℕ, ◌+◌, ◌%◌, true, false, List, [], ◌++◌, Some, None, length, codes, refl, ◌∙◌, arith, length-append}
+use Rattle.std.proofs.Common.{◌≡◌, ℕ, ◌+◌, ◌%◌, true, false, List, [], ◌++◌, Some, None, length, codes, refl}
+use Rattle.std.proofs.Common.{◌∙◌, arith, length-append}
 use Rattle.std.specs.Fmt.{digits}
 use Rattle.std.specs.FinMap.{find, get-from_entries}
 use Rattle.std.specs.Ordering.{nat_cmp}
@@ -12,14 +13,16 @@ use Rattle.path_rules.specs.Route.{RouteOf, is_name, can_be_served, route_in, ro
 use Rattle.path_rules.specs.Route as routed
 use Rattle.path_rules.specs.ContentType.{kind_of_ending, content_type_of}
 use Rattle.warp_response.specs.declared.response.LastWord.TheVariants.{Nothing, Close}
-use Rattle.warp_response.specs.Head.{Head, head_text, status_line, date_line, kind_line, length_line, place_line, allow_line, last_line}
+use Rattle.warp_response.specs.Head.{Head, head_text, status_line, date_line, kind_line, length_line}
+use Rattle.warp_response.specs.Head.{place_line, allow_line, last_line}
 use Rattle.warp_response.specs.Moment.{year_of, month_of, civil_of}
 use Rattle.warp_response.specs.Reply.{Reply, head_of, sent_bytes}
 use Rattle.warp_response.specs.Text.{answer_text}
 use Rattle.app_trait.specs.FolderReply.{folder_reply, missing, not_allowed, file_reply, moved}
 use Rattle.conn_loop.specs.Replying.{folder_replies}
 use Rattle.warp_load.specs.declared.request_kind.RequestKind.{RequestKind}
-use Rattle.warp_load.specs.declared.request_kind.RequestKind.TheVariants.{Index, Text, TextHead, Big, Absent, Folder, Posted, Browser}
+use Rattle.warp_load.specs.declared.request_kind.RequestKind.TheVariants.{Index, Text, TextHead, Big, Absent}
+use Rattle.warp_load.specs.declared.request_kind.RequestKind.TheVariants.{Folder, Posted, Browser}
 use Rattle.warp_load.specs.LoadFolder.{load_entries, load_folder, load_moment, rounds}
 use Rattle.warp_load.specs.LoadScripts.{answer_length}
 use Rattle.warp_load.proofs.ReadLemmas.{asked_by, utf8}
@@ -112,8 +115,11 @@ reply_is Browser = rw (route_sub_index, at_sub_index) refl
 
 -- ---- the answers
 
-head_length : (k : RequestKind) → length (head_text (head_of (reply_by k)) load_moment Nothing) + length (sent_bytes (reply_by k).content) ≡ answer_length k
-unfolding reply_by answer_length head_text status_line date_line kind_line length_line place_line allow_line last_line civil_of year_of month_of content_type_of kind_of_ending raw_path_of query_of form_of digits
+head_length : (k : RequestKind)
+    → length (head_text (head_of (reply_by k)) load_moment Nothing) + length (sent_bytes (reply_by k).content)
+    ≡ answer_length k
+unfolding reply_by answer_length head_text status_line date_line kind_line length_line place_line allow_line
+    last_line civil_of year_of month_of content_type_of kind_of_ending raw_path_of query_of form_of digits
 head_length Index = refl
 head_length Text = rw (length-rounds 1000 97 26) refl
 head_length TextHead = rw (length-rounds 1000 97 26) refl
@@ -124,19 +130,36 @@ head_length Posted = refl
 head_length Browser = refl
 
 -- an answer that doesn't close the connection has the length that the table says
-pub length-answer : (k : RequestKind) → length (answer_text (reply_by k) load_moment Nothing) ≡ answer_length k
-length-answer k = length-append (head_text (head_of (reply_by k)) load_moment Nothing) (sent_bytes (reply_by k).content) ∙ head_length k
+pub length-answer : (k : RequestKind)
+    → length (answer_text (reply_by k) load_moment Nothing) ≡ answer_length k
+length-answer k =
+    length-append (head_text (head_of (reply_by k)) load_moment Nothing) (sent_bytes (reply_by k).content)
+    ∙ head_length k
 
-line_more : (front line end : List ℕ) → length ((front ++ line) ++ end) ≡ length ((front ++ []) ++ end) + length line
-line_more front line end = omega (arith, length-append (front ++ line) end, length-append front line, length-append (front ++ []) end, length-append front ([]))
+line_more : (front line end : List ℕ)
+    → length ((front ++ line) ++ end) ≡ length ((front ++ []) ++ end) + length line
+line_more front line end = omega (
+  arith,
+  length-append (front ++ line) end,
+  length-append front line,
+  length-append (front ++ []) end,
+  length-append front ([]),
+)
 
-head_more : (head : Head) (moment : ℕ) → length (head_text head moment Close) ≡ length (head_text head moment Nothing) + 19
+head_more : (head : Head) (moment : ℕ)
+    → length (head_text head moment Close) ≡ length (head_text head moment Nothing) + 19
 unfolding head_text last_line
 head_more head moment = line_more _ (last_line Close) (codes "\r\n")
 
 -- an answer that closes the connection says so in 19 bytes
-pub length-closing : (k : RequestKind) → length (answer_text (reply_by k) load_moment Close) ≡ answer_length k + 19
+pub length-closing : (k : RequestKind)
+    → length (answer_text (reply_by k) load_moment Close) ≡ answer_length k + 19
 length-closing k =
     let head = head_of (reply_by k) in
     let content = sent_bytes (reply_by k).content in
-    omega (arith, length-append (head_text head load_moment Close) content, head_more head load_moment, head_length k)
+    omega (
+      arith,
+      length-append (head_text head load_moment Close) content,
+      head_more head load_moment,
+      head_length k,
+    )

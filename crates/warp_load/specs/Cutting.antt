@@ -12,7 +12,8 @@ next_length c = piece_length c.seed c.connection (vec_len c.steps)
 pub record IsCut (c : Cutter) (front : List ℕ) : Type 0 where
   pub short : vec_len c.piece < next_length c
   pub goes_on : (later : List ℕ) → steps_for c.seed c.connection 0 (front ++ later)
-      ≡ map step_shown c.steps.items ++ steps_for c.seed c.connection (vec_len c.steps) (c.piece.items ++ later)
+      ≡ map step_shown c.steps.items ++ steps_for c.seed c.connection (vec_len c.steps)
+      (c.piece.items ++ later)
 
 -- the numbers of a cutter are so small that no sum of theirs is too large
 pub record IsSmall (c : Cutter) : Type 0 where

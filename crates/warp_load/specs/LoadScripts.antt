@@ -1,14 +1,16 @@
 -- To be believed: the scripts of the load: the pieces of each input, and what may be written meanwhile.
-use Rattle.std.specs.Prelude.{ℕ, zero, suc, ◌+◌, ◌*◌, ◌%◌, ◌==◌, List, [], ◌∷◌, length, take, drop, map, sum_by, if◌then◌else◌}
+use Rattle.std.specs.Prelude.{ℕ, zero, suc, ◌+◌, ◌*◌, ◌%◌, ◌==◌, List, [], ◌∷◌, length, take, drop, map}
+use Rattle.std.specs.Prelude.{sum_by, if◌then◌else◌}
 use Rattle.std.specs.List.{range_with_len}
 use Rattle.outside.specs.ListenCauses.{Plan}
 use Rattle.poller.specs.declared.script.Script.{Script}
 use Rattle.poller.specs.declared.script.ScriptStep.{ScriptStep}
 use Rattle.warp_load.specs.declared.request_kind.RequestKind.{RequestKind}
-use Rattle.warp_load.specs.declared.request_kind.RequestKind.TheVariants.{Index, Text, TextHead, Big, Absent, Folder, Posted, Browser}
+use Rattle.warp_load.specs.declared.request_kind.RequestKind.TheVariants.{Index, Text, TextHead, Big, Absent}
+use Rattle.warp_load.specs.declared.request_kind.RequestKind.TheVariants.{Folder, Posted, Browser}
 use Rattle.warp_load.specs.Requests.{load_input, request_kinds}
 
--- how many bytes step k of connection i brings, where so many are left
+-- how many bytes step k of connection i brings, where this many are left
 unfoldable pub piece_length : (seed i k : ℕ) → ℕ
 piece_length seed i k = 1 + (seed + i + k) % 61
 
@@ -17,7 +19,7 @@ unfoldable pub piece_allowance : (seed i k : ℕ) → ℕ
 piece_allowance seed i k = 1 + (seed + 3 * i + 7 * k) % 977
 
 -- The steps from step k on that bring these bytes, each with its piece and its allowance: the next bytes, or
--- what is left. At most so many steps, which is enough where there are as many as bytes, since each brings
+-- what is left. At most this many steps, which is enough where there are as many as bytes, since each brings
 -- one.
 unfoldable pub steps_within : (seed i most k : ℕ) → List ℕ → List (List ℕ × ℕ)
 steps_within seed i zero k s = []

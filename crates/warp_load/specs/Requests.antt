@@ -2,7 +2,8 @@
 use Rattle.std.specs.Prelude.{ℕ, ◌+◌, ◌*◌, ◌%◌, ◌==◌, List, ◌++◌, codes, map, if◌then◌else◌}
 use Rattle.std.specs.List.{flat_map, range_with_len}
 use Rattle.warp_load.specs.declared.request_kind.RequestKind.{RequestKind}
-use Rattle.warp_load.specs.declared.request_kind.RequestKind.TheVariants.{Index, Text, TextHead, Big, Absent, Folder, Posted, Browser}
+use Rattle.warp_load.specs.declared.request_kind.RequestKind.TheVariants.{Index, Text, TextHead, Big, Absent}
+use Rattle.warp_load.specs.declared.request_kind.RequestKind.TheVariants.{Folder, Posted, Browser}
 
 -- the kinds by their numbers
 abbrev pub kind_numbered : ℕ → RequestKind
@@ -25,7 +26,8 @@ browser_request =
     codes "GET /sub/ HTTP/1.1\r\n"
     ++ codes "Host: localhost:8080\r\n"
     ++ codes "User-Agent: Mozilla/5.0 (X11; Linux x86_64; rv:128.0) Gecko/20100101 Firefox/128.0\r\n"
-    ++ codes "Accept: text/html,application/xhtml+xml,application/xml;q=0.9,image/avif,image/webp,*/*;q=0.8\r\n"
+    ++ codes
+    "Accept: text/html,application/xhtml+xml,application/xml;q=0.9,image/avif,image/webp,*/*;q=0.8\r\n"
     ++ codes "Accept-Language: en-US,en;q=0.5\r\n"
     ++ codes "Accept-Encoding: gzip, deflate, br, zstd\r\n"
     ++ codes "Referer: http://localhost:8080/\r\n"

@@ -7,10 +7,10 @@ use poller::ScriptStep;
 use std::alloc::{AllocError, Global};
 use std::mem;
 
-/// A piece has at most so many bytes.
+/// A piece has at most this many bytes.
 const LONGEST_PIECE: u64 = 61;
 
-/// A step allows at most so many bytes to be written.
+/// A step allows at most this many bytes to be written.
 const LARGEST_ALLOWANCE: u64 = 977;
 
 /// Cuts bytes into the steps of a connection's script. Each byte is copied once, into its piece.
@@ -59,7 +59,8 @@ impl Cutter {
     fn next_allowance(&self) -> u32
         requires small { IsSmall self.now }
         requires few { vec_len self.now.steps < 2 ^ 32 }
-        ensures allowance { result ≡ piece_allowance self.now.seed self.now.connection (vec_len self.now.steps) }
+        ensures allowance { result ≡ piece_allowance self.now.seed self.now.connection
+            (vec_len self.now.steps) }
     {
         let step = self.steps.len() as u64;
         1 + ((self.seed + 3 * self.connection + 7 * step) % LARGEST_ALLOWANCE) as u32
@@ -70,7 +71,8 @@ impl Cutter {
         requires small { IsSmall self.old }
         requires few { vec_len self.old.steps + length bytes.now < 2 ^ 32 }
         requires short { vec_len self.old.piece < next_length self.old }
-        ensures cut { (front : List ℕ) → IsCut self.old front → OnOk result (IsCut self.new (front ++ bytes.now)) }
+        ensures cut { (front : List ℕ) → IsCut self.old front
+            → OnOk result (IsCut self.new (front ++ bytes.now)) }
         ensures same { IsSameCutter self.old self.new }
         ensures few { OnOk result (vec_len self.new.steps ≤ vec_len self.old.steps + length bytes.now) }
         ensures short { OnOk result (vec_len self.new.piece < next_length self.new) }
@@ -89,8 +91,10 @@ impl Cutter {
     fn fill(&mut self, bytes: &[u8]) -> Result<(), AllocError>
         requires small { IsSmall self.old }
         requires few { vec_len self.old.steps + 1 < 2 ^ 32 }
-        requires room { (0 < length bytes.now) × (vec_len self.old.piece + length bytes.now ≤ next_length self.old) }
-        ensures cut { (front : List ℕ) → IsCut self.old front → OnOk result (IsCut self.new (front ++ bytes.now)) }
+        requires room { (0 < length bytes.now)
+            × (vec_len self.old.piece + length bytes.now ≤ next_length self.old) }
+        ensures cut { (front : List ℕ) → IsCut self.old front
+            → OnOk result (IsCut self.new (front ++ bytes.now)) }
         ensures same { IsSameCutter self.old self.new }
         ensures few { OnOk result (vec_len self.new.steps ≤ vec_len self.old.steps + 1) }
         ensures short { OnOk result (vec_len self.new.piece < next_length self.new) }

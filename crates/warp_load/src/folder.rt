@@ -70,7 +70,7 @@ fn add_file(
     Ok(())
 }
 
-/// So many bytes, which go round from one on.
+/// This many bytes, which go round from one on.
 fn rounds_of(alloc: Global, count: usize, from: u8, period: u8) -> Result<Vec<u8>, AllocError>
     requires { (0 < period) × (from + period ≤ 256) }
     ensures bytes { IfOk result (λ bytes. bytes.items ≡ rounds count from period) }

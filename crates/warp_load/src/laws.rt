@@ -18,10 +18,11 @@ pub fn a_load_has_its_ranges()
 {}
 
 /// A connection's input calls for as many final answers as it makes requests, and no byte of it is left
-/// behind them.
+/// after them.
 pub fn each_request_is_answered()
     ensures rest { (seed requests i : ℕ) → requests ≤ 1000 → rest_of (load_input seed requests i) ≡ [] }
-    ensures finals { (seed requests i : ℕ) → requests ≤ 1000 → finals_of (load_input seed requests i) ≡ requests }
+    ensures finals { (seed requests i : ℕ) → requests ≤ 1000
+        → finals_of (load_input seed requests i) ≡ requests }
 {
     a_settled_head_stays();
     a_settled_body_stays();

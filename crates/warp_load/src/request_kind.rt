@@ -59,7 +59,7 @@ const BROWSER_REQUEST: &[u8] = b"GET /sub/ HTTP/1.1\r\n\
     Priority: u=0, i\r\n\
     \r\n";
 
-// How many bytes each kind's answer has where it doesn't close the connection.
+/// How many bytes each kind's answer has where it doesn't close the connection.
 const INDEX_ANSWER: u64 = 140;
 
 const TEXT_ANSWER: u64 = 1141;

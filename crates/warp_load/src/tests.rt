@@ -1,5 +1,8 @@
 //! Worked values of the load, and each call once.
-use super::*;
+use crate::{
+    Load, LoadPlace, RequestKind, Sums, dispatchers_in, expected, load_files, load_in,
+    load_scripts, number_in,
+};
 use outside::MemFiles;
 use poller::{MemNet, Script};
 use std::process::Abort;

@@ -5,8 +5,8 @@ use Rattle.turn_cell.specs.declared.view.View.{View}
 use Rattle.turn_cell.specs.History.{Log, entries_in}
 use Rattle.turn_cell.specs.View.{own_entries, seat_of}
 use Rattle.turn_cell.specs.Calls.{Entered, WasSpent}
-use Rattle.dispatcher.proofs.Lists.{begins_one, begins_two}
-use Rattle.dispatcher.proofs.Grown.{grown_as, grown_same, grown_then}
+use Rattle.turn_cell.specs.ListLaws.{begins_one, begins_two}
+use Rattle.dispatcher.specs.Laws.{grown_as, grown_same, grown_then}
 use Rattle.warp_passes.specs.Own.{entries_of, Adds}
 
 module _ {E : Type 0} where

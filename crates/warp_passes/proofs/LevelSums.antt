@@ -5,9 +5,10 @@ use Rattle.reg_keys.specs.Tests.{total}
 use Rattle.turn_cell.specs.declared.view.View.{View}
 use Rattle.turn_cell.specs.Weights.{weigh}
 use Rattle.turn_cell.specs.View.{own_entries}
-use Rattle.turn_cell.proofs.Weights.{weigh-append, weigh_same}
+use Rattle.turn_cell.specs.ListLaws.{weigh-append, weigh_same}
 use Rattle.level.specs.Leveling.{IsLevel}
-use Rattle.level.proofs.Lists.{All-head, weigh_map}
+use Rattle.std.proofs.lemmas.List.Elements.{All-head}
+use Rattle.level.specs.ListLaws.{weigh_map}
 use Rattle.event_mgr.specs.Manager.{IsLawful}
 use Rattle.event_mgr.specs.Level.{AtStripe, AtNumbers}
 use Rattle.event_mgr.specs.Level as Mgr
@@ -37,7 +38,8 @@ module _ {A E : Type 0} (view : A → View E) where
       weigh_same (λ y. weigh f (entries_of (view y))) (λ y. weigh g (own_entries (view y))) (x ∷ xs)
       (λ y. weigh_map (λ (e : ℕ × E). e.1) f (own_entries (view y)))
       ∙ (sym (weigh_map view (λ v. weigh g (own_entries v)) (x ∷ xs))
-      ∙ (l.sums g ∙ ap (weigh g) (sym (All-head (λ (v : View E). v.seen ≡ l.log) (view x) (map view xs) l.saw))))
+      ∙ (l.sums g
+      ∙ ap (weigh g) (sym (All-head (λ (v : View E). v.seen ≡ l.log) (view x) (map view xs) l.saw))))
 
 -- the newest first, or the oldest first
 past_weighs : {D : Type 0} (f : D → ℕ) (h : List (ℕ × D)) → weigh f (past_of h) ≡ weigh (λ e. f e.1) h
@@ -46,21 +48,30 @@ past_weighs f h = weigh_reverse f (map (λ e. e.1) h) ∙ weigh_map (λ e. e.1) 
 module _ {A L : Type 0} (known : A → PassView L) where
   pub rows_level : (xs ys : List A) → CameLevel known xs ys → ArePassesLevel known ys
   rows_level xs ys b = record {
-    mgr = record { stripes = λ s low. (b (AtMgr (AtStripe s low))).level; numbers = (b (AtMgr AtNumbers)).level };
+    mgr = record {
+      stripes = λ s low. (b (AtMgr (AtStripe s low))).level;
+      numbers = (b (AtMgr AtNumbers)).level;
+    };
     cache = (b AtCache).level;
     tally = (b AtTally).level;
   }
 
-  pub managers_lawful : (xs : List A) → All (λ y. IsLawfulPass (known y)) xs → All (λ y. IsLawful (known y).mgr) xs
+  pub managers_lawful : (xs : List A) → All (λ y. IsLawfulPass (known y)) xs
+      → All (λ y. IsLawful (known y).mgr) xs
   managers_lawful xs l k d h = (l k d h).mgr
 
-  pub all_add_up : (x : A) (xs : List A) → All (λ y. IsLawfulPass (known y)) (x ∷ xs) → ArePassesLevel known (x ∷ xs)
-      → Mgr.AddUp (λ y. (known y).mgr) x xs → ((f : TallyEntry → ℕ) (h : List (ℕ × TallyEntry)) → total f (tally_past h) ≡ weigh (λ e. f e.1) h)
+  pub all_add_up : (x : A) (xs : List A) → All (λ y. IsLawfulPass (known y)) (x ∷ xs)
+      → ArePassesLevel known (x ∷ xs)
+      → Mgr.AddUp (λ y. (known y).mgr) x xs
+      → ((f : TallyEntry → ℕ) (h : List (ℕ × TallyEntry)) → total f (tally_past h) ≡ weigh (λ e. f e.1) h)
       → PassesAddUp known x xs
-  all_add_up x xs lawful level mgr past = let first = All-head (λ y. IsLawfulPass (known y)) x xs lawful in record {
-    mgr = mgr;
-    legal = first.cache;
-    cached = λ f. adds_up (λ y. (known y).cache) f x xs level.cache ∙ sym (past_weighs f (known x).cache.seen);
-    right = first.tally;
-    tallied = λ f. adds_up (λ y. (known y).tally) f x xs level.tally ∙ sym (past f (known x).tally.seen);
-  }
+  all_add_up x xs lawful level mgr past =
+      let first = All-head (λ y. IsLawfulPass (known y)) x xs lawful in
+      record {
+        mgr = mgr;
+        legal = first.cache;
+        cached =
+            λ f. adds_up (λ y. (known y).cache) f x xs level.cache ∙ sym (past_weighs f (known x).cache.seen);
+        right = first.tally;
+        tallied = λ f. adds_up (λ y. (known y).tally) f x xs level.tally ∙ sym (past f (known x).tally.seen);
+      }

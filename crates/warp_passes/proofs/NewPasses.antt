@@ -44,18 +44,23 @@ module _ {E : Type 0} where
 
 -- the laws of the manager's passes
 abbrev pub MgrFirst : Type 0
-MgrFirst = (v : MgrView) → Manager.IsFirst v → (k : MgrCell) → (name : List ℕ) × (Mgr.known_at k v ≡ first_view name)
+MgrFirst =
+    (v : MgrView) → Manager.IsFirst v → (k : MgrCell) → (name : List ℕ) × (Mgr.known_at k v ≡ first_view name)
 
 abbrev pub MgrSplit : Type 0
-MgrSplit = (v : MgrView) (w : MgrView) (o : MgrView) → IsLawful v → IsMgrSplit v w o → (k : MgrCell) → IsSplit (Mgr.known_at k v) (Mgr.known_at k w) (Mgr.known_at k o)
+MgrSplit =
+    (v : MgrView) (w : MgrView) (o : MgrView) → IsLawful v → IsMgrSplit v w o → (k : MgrCell)
+    → IsSplit (Mgr.known_at k v) (Mgr.known_at k w) (Mgr.known_at k o)
 
 module _ {L : Type 0} where
-  pub first_known : MgrFirst → (v : PassView L) → IsFirst v → (k : ServeCell) → (name : List ℕ) × (known_at k v ≡ first_view name)
+  pub first_known : MgrFirst → (v : PassView L) → IsFirst v → (k : ServeCell)
+      → (name : List ℕ) × (known_at k v ≡ first_view name)
   first_known law v f (AtMgr k) = law v.mgr f.mgr k
   first_known law v f AtCache = ([], f.cache)
   first_known law v f AtTally = ([], f.tally)
 
-  pub split_known : MgrSplit → (v w o : PassView L) → IsLawfulPass v → IsPassSplit v w o → (k : ServeCell) → IsSplit (known_at k v) (known_at k w) (known_at k o)
+  pub split_known : MgrSplit → (v w o : PassView L) → IsLawfulPass v → IsPassSplit v w o → (k : ServeCell)
+      → IsSplit (known_at k v) (known_at k w) (known_at k o)
   split_known law v w o l s (AtMgr k) = law v.mgr w.mgr o.mgr l.mgr s.mgr k
   split_known law v w o l s AtCache = s.cache
   split_known law v w o l s AtTally = s.tally
@@ -70,7 +75,10 @@ module _ {L : Type 0} where
 
   pub left_new : MgrSplit → (v w o : PassView L) → IsLawfulPass v → IsPassSplit v w o → IsNew v → IsNew w
   left_new law v w o l s new = record {
-    cells = λ k. (let n = new.cells k in (n.0, left_fresh n.0 (known_at k v) (known_at k w) (known_at k o) (split_known law v w o l s k) n.1));
+    cells =
+        λ k. (let n =
+        new.cells k in
+        (n.0, left_fresh n.0 (known_at k v) (known_at k w) (known_at k o) (split_known law v w o l s k) n.1));
     queue = left_fresh (8192 ∷ []) v.queue w.queue o.queue s.queue new.queue;
     hand = s.hand ∙ new.hand;
     times = s.times ∙ new.times;
@@ -78,12 +86,16 @@ module _ {L : Type 0} where
 
   pub right_new : MgrSplit → (v w o : PassView L) → IsLawfulPass v → IsPassSplit v w o → IsNew v → IsNew o
   right_new law v w o l s new = record {
-    cells = λ k. (let n = new.cells k in (n.0, right_fresh n.0 (known_at k v) (known_at k w) (known_at k o) (split_known law v w o l s k) n.1));
+    cells = λ k. (let n = new.cells k in (
+      n.0,
+      right_fresh n.0 (known_at k v) (known_at k w) (known_at k o) (split_known law v w o l s k) n.1,
+    ));
     queue = right_fresh (8192 ∷ []) v.queue w.queue o.queue s.queue new.queue;
     hand = s.empty;
     times = s.timeless ∙ ap (λ (x : TimeView). record Times.first_view { seen = x.seen }) new.times;
   }
 
 -- the first item of a list that was empty
-pub one_item : {A : Type 0} (before after : List A) (p : A) → before ≡ [] → after ≡ before ++ p ∷ [] → after ≡ p ∷ []
+pub one_item : {A : Type 0} (before after : List A) (p : A)
+    → before ≡ [] → after ≡ before ++ p ∷ [] → after ≡ p ∷ []
 one_item before after p none more = more ∙ ap (λ l. l ++ p ∷ []) none

@@ -24,13 +24,16 @@ module _ {E : Type 0} (Fact : Log E → Type 0) where
   pub shared_to : (v w v' w' : View E) → HasShared v w v' w' → Fact v.seen → Fact w.seen → Fact w'.seen
   shared_to v w v' w' h f g = let between = split_right v v' h.between h.split f in
       subst Fact (sym (ap (λ (x : View E). x.seen) h.joined.both))
-      (cond_both (nat_lt (length w.seen) (length h.between.seen)) h.between.seen w.seen Fact (λ _. between) (λ _. g))
+      (cond_both (nat_lt (length w.seen) (length h.between.seen)) h.between.seen w.seen Fact
+      (λ _. between) (λ _. g))
 
 module _ {L : Type 0} where
   -- each cell by itself
   pub passes_shared : (v w v' w' : PassView L)
-      → ((k : MgrCell) → HasShared (Mgr.known_at k v.mgr) (Mgr.known_at k w.mgr) (Mgr.known_at k v'.mgr) (Mgr.known_at k w'.mgr))
-      → HasShared v.cache w.cache v'.cache w'.cache → HasShared v.tally w.tally v'.tally w'.tally → ArePassesShared v w v' w'
+      → ((k : MgrCell) → HasShared (Mgr.known_at k v.mgr) (Mgr.known_at k w.mgr)
+      (Mgr.known_at k v'.mgr) (Mgr.known_at k w'.mgr))
+      → HasShared v.cache w.cache v'.cache w'.cache → HasShared v.tally w.tally v'.tally w'.tally
+      → ArePassesShared v w v' w'
   passes_shared v w v' w' mgr cache tally (AtMgr k) = mgr k
   passes_shared v w v' w' mgr cache tally AtCache = cache
   passes_shared v w v' w' mgr cache tally AtTally = tally

@@ -1,5 +1,6 @@
 -- What a step on the tally's cell says of what its pass did.
-use Rattle.std.proofs.Common.{◌≡◌, ℕ, Bool, true, false, List, [], ◌∷◌, ◌++◌, map, reverse, refl, sym, ap, ◌∙◌, subst, ◌⊎◌, inl, inr}
+use Rattle.std.proofs.Common.{◌≡◌, ℕ, Bool, true, false, List, [], ◌∷◌, ◌++◌, map, reverse, refl, sym, ap}
+use Rattle.std.proofs.Common.{◌∙◌, subst, ◌⊎◌, inl, inr}
 use Rattle.std.proofs.lemmas.List.{append-nil, map-append, reverse-append}
 use Rattle.turn_cell.specs.declared.view.View.{View}
 use Rattle.turn_cell.specs.History.{Log}
@@ -11,15 +12,16 @@ use Rattle.warp_tally.specs.declared.calls.Counted.TheVariants.{Yes, No, NoMemor
 use Rattle.warp_tally.specs.declared.calls.TallyReply.{TallyReply}
 use Rattle.warp_tally.specs.declared.calls.TallyEntry.{TallyEntry}
 use Rattle.warp_tally.specs.declared.tally.Tally.{Tally}
-use Rattle.warp_tally.specs.Tallies.{tally_past, counts, yes_if, yes_with, is_open, is_unstopped, totals_of, IsTallyPast}
-use Rattle.warp_tally.specs.TallyStands.{TallyStands}
+use Rattle.warp_tally.specs.Tallies.{tally_past, counts, yes_if, yes_with, is_open, is_unstopped, totals_of}
+use Rattle.warp_tally.specs.Tallies.{IsTallyPast}
+use Rattle.warp_tally.specs.RepresentsTally.{RepresentsTally}
 use Rattle.warp_passes.specs.Own.{entries_of}
 use Rattle.warp_passes.proofs.Added.{entered_adds, spent_adds}
 use Rattle.warp_passes.specs.TallyCalls.{MayAnswer, TallyEntered, TallySpent}
 
 -- the relation of a tally to a history of its cell
 abbrev stands : Tally → Log TallyEntry → Type 0
-stands t h = TallyStands (tally_past h) t
+stands t h = RepresentsTally (tally_past h) t
 
 abbrev no_name : Tally → List ℕ
 no_name t = []
@@ -38,14 +40,16 @@ yes_or_none true = inl refl
 yes_or_none false = inr refl
 
 -- how a call counts after a past
-may_answer : (room : Bool) (past : List TallyEntry) (call : TallyCall) → MayAnswer call (counts room past call)
+may_answer : (room : Bool) (past : List TallyEntry) (call : TallyCall)
+    → MayAnswer call (counts room past call)
 may_answer room past (Accept o) = yes_or_none room
 may_answer room past TurnAway = refl
 may_answer room past (Finish o) = yes_or_no (is_open o past)
 may_answer room past (Stop code) = yes_or_no (is_unstopped (totals_of past).stop)
 may_answer room past Look = refl
 
-pub tally_entered : (e : TallyEntry) (v w : View TallyEntry) → Entered stands no_name e v w → TallyEntered e v w
+pub tally_entered : (e : TallyEntry) (v w : View TallyEntry) → Entered stands no_name e v w
+    → TallyEntered e v w
 tally_entered e v w s =
     let adds = entered_adds stands no_name e v w s in
     let right : IsTallyPast (tally_past w.seen) = s.is_part.0.right in

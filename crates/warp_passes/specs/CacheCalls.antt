@@ -43,7 +43,8 @@ module _ {F X : Type 0} {G : Ghosts F X} where
   pub data DidAcquire (path : List ℕ) (result : Acquired F X G) (old new : FilesTold)
       (piece : List (CacheDeed (Lease F X G))) : Type 0 where
     -- a lease came back before, and the files weren't asked
-    hit : (lease : Lease F X G) → result ≡ Leased lease → piece ≡ Deeds.Hit (number_of lease.entry) path lease ∷ []
+    hit : (lease : Lease F X G) → result ≡ Leased lease
+        → piece ≡ Deeds.Hit (number_of lease.entry) path lease ∷ []
         → new ≡ old → DidAcquire path result old new piece
     -- the files were looked at, and the ticket ended
     fresh : (k : ℕ) → piece ≡ Deeds.Fresh k path ∷ ending k path result ∷ []

@@ -54,7 +54,8 @@ module _ {L : Type 0} where
     -- of each cell, the passes of xs were brought to one history, and are those of ys
     abbrev pub CameLevel : List A → List A → Type 0
     CameLevel xs ys =
-        (k : ServeCell) → BroughtLevel (map (λ x. known_at k (known x)) xs) (map (λ x. known_at k (known x)) ys)
+        (k : ServeCell)
+        → BroughtLevel (map (λ x. known_at k (known x)) xs) (map (λ x. known_at k (known x)) ys)
 
   -- what levelling is told of whatever holds a pass of each shared thing: what its pass knows, and that it is
   -- a pass of them

@@ -1,5 +1,5 @@
-//! Calls on the cache of open files, which lies in a turn cell. Each makes one entry of the cache's history or
-//! two, and waits for the turn. Files are looked at and closed outside of it.
+//! Calls on the cache of open files, which lies in a turn cell. Each makes one entry of the cache's history
+//! or two, and waits for the turn. Files are looked at and closed outside of it.
 ghost use Rattle.std.specs.Prelude.{◌≡◌, []};
 ghost use Rattle.turn_cell.specs.Calls.{view_of};
 ghost use Rattle.fd_cache.specs.Acquired.{Gives};
@@ -35,7 +35,8 @@ pub fn acquire<R: Wait, F: Files>(
     requires { IsCacheOf cell.now pass.old }
     ensures own { IsCacheOf cell.now pass.new }
     ensures gives { Gives path.now result }
-    ensures cached { HasCached (DidAcquire path.now result (F.told files.old) (F.told files.new)) (acquire_met result)
+    ensures cached { HasCached (DidAcquire path.now result (F.told files.old) (F.told files.new))
+        (acquire_met result)
         (view_of pass.old) (view_of pass.new) }
 {
     fd_cache::acquire(alloc, rt, cell, pass, path, files)

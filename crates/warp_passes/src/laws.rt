@@ -1,5 +1,5 @@
-//! What holds of passes that were brought level. Each law is the contract of a function that does nothing when
-//! it runs. They speak of a list of anything that holds a pass of each shared thing, as rows do, by the
+//! What holds of passes that were brought level. Each law is the contract of a function that does nothing
+//! when it runs. They speak of a list of anything that holds a pass of each shared thing, as rows do, by the
 //! function to what its pass knows.
 ghost use Rattle.std.specs.Prelude.{◌≡◌, List, ◌∷◌, All, map};
 ghost use Rattle.dispatcher.specs.Stripes.{Each};
@@ -36,8 +36,8 @@ pub fn levelled_rows_are_level<A, L>()
         OwnIsKept known xs ys → Each OwnsTheSame (map known xs) (map known ys) }
 {}
 
-/// Whatever entries weigh, what the passes did that were brought level weighs together what the histories weigh
-/// that each of them has seen, and in these each reply is right.
+/// Whatever entries weigh, what the passes did that were brought level weighs together what the histories
+/// weigh that each of them has seen, and in these each reply is right.
 pub fn level_passes_add_up<A, L>()
     ensures { (known : A → PassView L) (x : A) (xs : List A) →
         All (λ y. IsLawfulPass (known y)) (x ∷ xs) → ArePassesLevel known (x ∷ xs) → PassesAddUp known x xs }

@@ -1,4 +1,5 @@
-//! Passes of all shared things tell one another what they have seen, so that all of them can be brought level.
+//! Passes of all shared things tell one another what they have seen, so that all of them
+//! can be brought level.
 use crate::rows::ShareRow;
 use crate::shared::{ServePass, Shared};
 use level::Share;

@@ -9,8 +9,8 @@ use outside::Files;
 use std::alloc::{AllocError, Global};
 use stripe_table::Load;
 
-/// All things new, and so many passes of them. None has seen anything or did anything, and on each cell each
-/// seat is one pass's.
+/// All things new, and this many passes of them. None has seen anything or did anything, and on
+/// each cell each seat is one pass's.
 pub fn shared_among<J: Load, F: Files>(
     alloc: Global,
     dispatchers: usize,

@@ -1,4 +1,5 @@
-//! Rows that hold passes beside other things. They are brought level where they lie, and the other things stay.
+//! Rows that hold passes beside other things. They are brought level where they lie, and
+//! the other things stay.
 ghost use Rattle.std.specs.Prelude.{◌≡◌, ◌∷◌, length, map};
 ghost use Rattle.level.specs.Meanings.{AllAreOf, HoldAllSeats, KeepOwn, AreBroughtLevel};
 ghost use Rattle.level.specs.Gathering.{AreGathered, HaveTold};
@@ -31,8 +32,8 @@ pub trait ShareRow {
 /// Brings the passes of all rows to one history of each cell. Each keeps its own entries, and each row what
 /// else it holds.
 ///
-/// It takes no memory, and waits for no turn: what each row's passes had seen is told to the first's, and what
-/// the first's have then seen to each.
+/// It takes no memory, and waits for no turn: what each row's passes had seen is told to the first's, and
+/// what the first's have then seen to each.
 pub fn bring_rows_level<P: ShareRow>(of: &P::Of, rows: &mut [P])
     requires own { AllAreOf P.meaning.passes of.now rows.old }
     requires seats { HoldAllSeats P.meaning.passes rows.old }

@@ -77,8 +77,8 @@ impl<J: Load, F: Files> Shared<J, F> {
         Ok((shared, pass))
     }
 
-    /// A pass that has seen what this one has, did nothing, and has an empty hand. It takes half of this one's
-    /// first class of seats on each cell.
+    /// A pass that has seen what this one has, did nothing, and has an empty hand. It takes half of this
+    /// one's first class of seats on each cell.
     ///
     /// Its memory is taken before any pass is split, so where there is none this pass is as it was.
     pub fn split(
@@ -89,7 +89,8 @@ impl<J: Load, F: Files> Shared<J, F> {
         requires { AreOf self.now pass.old }
         ensures own { AreOf self.now pass.new }
         ensures other { IfOk result (λ o. AreOf self.now o) }
-        ensures split { IfOk result (λ o. IsPassSplit (pass_view pass.old) (pass_view pass.new) (pass_view o)) }
+        ensures split { IfOk result
+            (λ o. IsPassSplit (pass_view pass.old) (pass_view pass.new) (pass_view o)) }
         ensures same { IfErr result (λ _. pass_view pass.new ≡ pass_view pass.old) }
     {
         let hand = Hand::new(alloc)?;

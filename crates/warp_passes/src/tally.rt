@@ -1,5 +1,5 @@
-//! Calls on the tally, which lies in a turn cell. Each call is one entry of the tally's history, and waits for
-//! the turn.
+//! Calls on the tally, which lies in a turn cell. Each call is one entry of the tally's
+//! history, and waits for the turn.
 ghost use Rattle.turn_cell.specs.Calls.{view_of};
 ghost use Rattle.warp_tally.specs.declared.calls.TallyCall.TheVariants.{Accept, TurnAway, Finish, Stop, Look};
 ghost use Rattle.warp_passes.specs.TallyCalls.{IsTallyOf, HasCalled};

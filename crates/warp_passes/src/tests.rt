@@ -2,13 +2,14 @@
 ghost use Rattle.std.specs.Prelude.{◌≡◌, ℕ, [], All, IfOk, map};
 ghost use Rattle.level.specs.Meanings.{HoldAllSeats};
 ghost use Rattle.outside.specs.MemFolder.{folder_in};
+ghost use Rattle.warp_passes.specs.CacheCalls.{IsCacheOf};
 ghost use Rattle.warp_passes.specs.Passes.{AreOf, PassRest, pass_view, rest_of};
 ghost use Rattle.warp_passes.specs.Cells.{meaning_by, serve_meaning};
 ghost use Rattle.warp_passes.specs.Levels.{HasPassGrown};
 
 use crate::{
-    ReapOut, ServePass, ShareRow, Shared, TallyOut, accept, acquire, bring_rows_level, finish,
-    grown_passes_hold_the_seats, look, moved_passes_hold_the_seats, reap_once, release,
+    CachePass, ReapOut, ServePass, ShareRow, Shared, TallyOut, accept, acquire, bring_rows_level,
+    finish, grown_passes_hold_the_seats, look, moved_passes_hold_the_seats, reap_once, release,
     shared_among, stop, turn_away,
 };
 use fd_cache::{Acquired, Basket, Lease, ReleaseOut};
@@ -136,6 +137,37 @@ fn counts_on_one_tally<R: Wait + Abort, K: Place>(rt: &R, alloc: Global) -> Resu
     Ok(())
 }
 
+/// A lease of the file that is there.
+fn leased<R: Wait + Abort, F: Files>(
+    rt: &R,
+    alloc: Global,
+    shared: &Shared<Job, F>,
+    pass: &mut CachePass<F>,
+    files: &mut F,
+) -> Lease<F>
+    requires { IsCacheOf shared.now.cache pass.old }
+    ensures { IsCacheOf shared.now.cache pass.new }
+{
+    match acquire(alloc, rt, &shared.cache, pass, "a.txt", files) {
+        Acquired::Leased(lease) => lease,
+        _ => panic!(rt; "the file is there"),
+    }
+}
+
+/// Gives a lease back.
+fn give_back<R: Wait + Abort, F: Files>(
+    rt: &R,
+    shared: &Shared<Job, F>,
+    pass: &mut CachePass<F>,
+    lease: Lease<F>,
+)
+    requires { IsCacheOf shared.now.cache pass.old }
+    ensures { IsCacheOf shared.now.cache pass.new }
+{
+    let out = release(rt, &shared.cache, pass, lease);
+    assert_eq!(rt; out, ReleaseOut::Released);
+}
+
 /// One dispatcher leases a file, and another reaps it once it is back.
 fn reaps_what_came_back<R: Wait + Abort, K: Place>(
     rt: &R,
@@ -149,57 +181,23 @@ fn reaps_what_came_back<R: Wait + Abort, K: Place>(
     let mut other = shared.split(alloc, &mut pass)?;
     let basket = Basket::new(alloc)?;
 
-    let out = acquire(
-        alloc,
-        rt,
-        &shared.cache,
-        &mut pass.cache,
-        "a.txt",
-        &mut files,
-    );
-    let Acquired::Leased(lease) = out else {
-        panic!(rt; "the file is there");
-    };
+    let lease = leased(rt, alloc, &shared, &mut pass.cache, &mut files);
     assert_eq!(rt; lease.size, 5);
     let (out, basket) = reap_once(rt, &shared.cache, &mut other.cache, basket);
     assert_eq!(rt; out, ReapOut::Reaped);
-    assert_eq!(rt;
-        release(rt, &shared.cache, &mut pass.cache, lease),
-        ReleaseOut::Released
-    );
+    give_back(rt, &shared, &mut pass.cache, lease);
 
     // It is kept, so that nothing is looked for.
-    let out = acquire(
-        alloc,
-        rt,
-        &shared.cache,
-        &mut other.cache,
-        "a.txt",
-        &mut files,
-    );
-    let Acquired::Leased(lease) = out else {
-        panic!(rt; "the file is open");
-    };
+    let lease = leased(rt, alloc, &shared, &mut other.cache, &mut files);
     assert_eq!(rt; files.finds(), 1);
-    assert_eq!(rt;
-        release(rt, &shared.cache, &mut other.cache, lease),
-        ReleaseOut::Released
-    );
+    give_back(rt, &shared, &mut other.cache, lease);
 
     // Two reaps back to back close it.
     let (_, basket) = reap_once(rt, &shared.cache, &mut pass.cache, basket);
     let (out, basket) = reap_once(rt, &shared.cache, &mut pass.cache, basket);
     assert_eq!(rt; out, ReapOut::Reaped);
     assert_eq!(rt; basket.len(), 0);
-    let out = acquire(
-        alloc,
-        rt,
-        &shared.cache,
-        &mut pass.cache,
-        "a.txt",
-        &mut files,
-    );
-    assert!(rt; matches!(out, Acquired::Leased(_)));
+    let _lease = leased(rt, alloc, &shared, &mut pass.cache, &mut files);
     assert_eq!(rt; files.finds(), 2);
     Ok(())
 }

@@ -1,10 +1,11 @@
 -- What the answer about a window shows of the bytes.
-use Rattle.std.proofs.Common.{◌≡◌, ◌≢◌, ℕ, ◌-◌, ◌≤◌, List, ◌++◌, length, take, drop, slice_range, refl, sym, ap, ◌∙◌, arith, length-drop, length-take, take-append-drop}
-use Rattle.std.proofs.lemmas.List.{take-append-le, drop-append-le}
+use Rattle.std.proofs.Common.{◌≡◌, ◌≢◌, ℕ, ◌-◌, ◌≤◌, List, length, take, drop, refl, sym, ap, ◌∙◌, arith}
+use Rattle.std.proofs.Common.{length-take, take-append-drop}
 use Rattle.httparse.specs.Grammar.{NeverHasRequest}
 use Rattle.httparse.specs.Spans.{span_bytes, IsWithin, IsRequestOf, RequestExceeds}
 use Rattle.httparse.specs.declared.Error.{Error}
-use Rattle.httparse.specs.declared.Error.TheVariants.{HeaderName, HeaderValue, NewLine, Status, Token, TooManyHeaders, Version}
+use Rattle.httparse.specs.declared.Error.TheVariants.{HeaderName, HeaderValue, NewLine, Status, Token}
+use Rattle.httparse.specs.declared.Error.TheVariants.{TooManyHeaders, Version}
 use Rattle.httparse.specs.declared.spans.Span.{Span}
 use Rattle.httparse.specs.declared.spans.HeaderSpan.{HeaderSpan}
 use Rattle.httparse.specs.declared.spans.RequestSpans.{RequestSpans}
@@ -14,15 +15,11 @@ use Rattle.warp_request.specs.declared.verdict.Next.{Next}
 use Rattle.warp_request.specs.declared.verdict.Next.TheVariants.{More, Refuse, Head}
 use Rattle.warp_request.specs.Checks.{parts_of}
 use Rattle.warp_request.specs.Shown.{shown, parts_shown, LiesIn}
+use Rattle.warp_request.specs.ListLaws.{slice_range-append}
 use Rattle.warp_request.proofs.RoomLemmas.{room_enough}
 
-slice_range-append : (w t : List ℕ) (a b : ℕ) → a ≤ b → b ≤ length w → slice_range (w ++ t) a b ≡ slice_range w a b
-slice_range-append w t a b ordered fits =
-    let start : a ≤ length w = omega arith in
-    let long : b - a ≤ length (drop a w) = omega (arith, length-drop a w) in
-    ap (λ (x : List ℕ). take (b - a) x) (drop-append-le a w t start) ∙ take-append-le (b - a) (drop a w) t long
-
-span_bytes-take : (s : List ℕ) (n : ℕ) (span : Span) (len : ℕ) → IsWithin len span → len ≤ length (take n s) → span_bytes s span ≡ span_bytes (take n s) span
+span_bytes-take : (s : List ℕ) (n : ℕ) (span : Span) (len : ℕ) → IsWithin len span → len ≤ length (take n s)
+    → span_bytes s span ≡ span_bytes (take n s) span
 span_bytes-take s n span len is fits =
     ap (λ (x : List ℕ). span_bytes x span) (sym (take-append-drop n s))
     ∙ slice_range-append (take n s) (drop n s) span.start span.end is.0 (omega (arith, is.1, fits))
@@ -53,5 +50,12 @@ by_error w TooManyHeaders fits other many = absurd (room_enough w fits (many ref
 by_error w Version fits other many = other (λ p. cc)
 
 -- the spans show the parts of the head
-pub same_parts : (w : List ℕ) (fields : List HeaderSpan) (r : RequestSpans) (x : IsRequestOf w fields r) → parts_shown w fields r ≡ parts_of x.0
-same_parts w fields r x = let a = x.1.method in let b = x.1.path in let c = x.1.version in let d = x.1.fields in let e = x.1.len in cc
+pub same_parts : (w : List ℕ) (fields : List HeaderSpan) (r : RequestSpans) (x : IsRequestOf w fields r)
+    → parts_shown w fields r ≡ parts_of x.0
+same_parts w fields r x =
+    let a = x.1.method in
+    let b = x.1.path in
+    let c = x.1.version in
+    let d = x.1.fields in
+    let e = x.1.len in
+    cc

@@ -1,5 +1,8 @@
--- To be believed: what the bytes after a head say of the body that its framing promises (RFC 9112, sections 6 and 7.1).
-use Rattle.std.specs.Prelude.{ℕ, zero, suc, ◌+◌, ◌*◌, ◌-◌, Bool, true, false, ◌&&◌, ◌||◌, List, [], ◌∷◌, Option, Some, None, is_some, length, take, drop, fold, unwrap_or, if◌then◌else◌, ◌==◌, nat_le, nat_lt}
+-- To be believed: what the bytes after a head say of the body that its framing promises
+-- (RFC 9112, sections 6 and 7.1).
+use Rattle.std.specs.Prelude.{ℕ, zero, suc, ◌+◌, ◌*◌, ◌-◌, Bool, true, false, ◌&&◌, ◌||◌, List, [], ◌∷◌}
+use Rattle.std.specs.Prelude.{Option, Some, None, is_some, length, take, drop, fold, unwrap_or, if◌then◌else◌}
+use Rattle.std.specs.Prelude.{◌==◌, nat_le, nat_lt}
 use Rattle.std.specs.List.{prefix_len}
 use Rattle.httparse.specs.Ascii.{line_feed, carriage_return}
 use Rattle.warp_request.specs.LimitsAndWords.{body_limit, chunk_digits, chunk_line_limit, trailer_limit}
@@ -7,13 +10,14 @@ use Rattle.warp_response.specs.Statuses.{bad_request, content_too_large, header_
 use Rattle.warp_request.specs.declared.verdict.Framing.{Framing}
 use Rattle.warp_request.specs.declared.verdict.Framing.TheVariants as Framings
 
--- a body that isn't whole yet, one that is refused with a status, or one that has so many bytes
+-- a body that isn't whole yet, one that is refused with a status, or one that has this many bytes
 pub data BodyVerdict : Type 0 where
   more : BodyVerdict
   refused : ℕ → BodyVerdict
   whole : ℕ → BodyVerdict
 
--- a part of a body that isn't whole yet, that is refused with a status, or that says a number and ends before some bytes
+-- a part of a body that isn't whole yet, that is refused with a status, or that says a
+-- number and ends before some bytes
 pub data Part : Type 0 where
   cut : Part
   wrong : ℕ → Part
@@ -62,7 +66,8 @@ unfoldable pub behind_digits : List ℕ → List ℕ → Part
 behind_digits digits [] = cut
 behind_digits [] (b ∷ s) = wrong bad_request
 behind_digits (d ∷ digits) (b ∷ s) =
-    if opens_extension b then line_end (number_of (d ∷ digits)) (behind_extension s) else line_end (number_of (d ∷ digits)) (b ∷ s)
+    if opens_extension b then line_end (number_of (d ∷ digits)) (behind_extension s)
+    else line_end (number_of (d ∷ digits)) (b ∷ s)
 
 -- a chunk line: one to eight hexadecimal digits, which say the chunk's size, and what follows them
 unfoldable pub line_of : List ℕ → Part
@@ -70,12 +75,15 @@ line_of s =
     let n = prefix_len is_hex s in
     if nat_lt chunk_digits n then wrong bad_request else behind_digits (take n s) (drop n s)
 
--- lines of bytes but CR, LF and NUL, each ended by CRLF, and an empty one as their end; `fresh`: no byte of a line came yet
+-- lines of bytes but CR, LF and NUL, each ended by CRLF, and an empty one as their end;
+-- `fresh`: no byte of a line came yet
 unfoldable pub section_of : Bool → List ℕ → Part
 section_of fresh [] = cut
-section_of fresh (b ∷ []) = if b == carriage_return then cut else (if b == line_feed || b == 0 then wrong bad_request else cut)
+section_of fresh (b ∷ []) =
+    if b == carriage_return then cut else (if b == line_feed || b == 0 then wrong bad_request else cut)
 section_of fresh (b ∷ c ∷ s) =
-    if b == carriage_return then (if c == line_feed then (if fresh then past 0 s else section_of true s) else wrong bad_request)
+    if b == carriage_return
+    then (if c == line_feed then (if fresh then past 0 s else section_of true s) else wrong bad_request)
     else (if b == line_feed || b == 0 then wrong bad_request else section_of false (c ∷ s))
 
 -- a part that has to end within its first bytes is refused at the last of these
@@ -90,7 +98,9 @@ chunk_line s = let w = take chunk_line_limit s in capped chunk_line_limit bad_re
 
 -- a trailer section within its first 4,096 bytes
 abbrev pub trailers : List ℕ → Part
-trailers s = let w = take trailer_limit s in capped trailer_limit header_fields_too_large s w (section_of true w)
+trailers s =
+    let w = take trailer_limit s in
+    capped trailer_limit header_fields_too_large s w (section_of true w)
 
 -- what follows the content of a chunk: its CRLF, and then the next chunk
 abbrev pub behind_content : (List ℕ → Part) → Part → Part
@@ -98,7 +108,8 @@ behind_content next cut = cut
 behind_content next (wrong code) = wrong code
 behind_content next (past n s) = next s
 
--- what follows a chunk line: the trailers after the last chunk, whose size is 0, else the content and the next chunk
+-- what follows a chunk line: the trailers after the last chunk, whose size is 0, else
+-- the content and the next chunk
 abbrev pub behind_line : (ℕ → List ℕ → Part) → ℕ → Part → Part
 behind_line next sum cut = cut
 behind_line next sum (wrong code) = wrong code
@@ -106,7 +117,7 @@ behind_line next sum (past size s) =
     if nat_lt body_limit (sum + size) then wrong content_too_large
     else (if size == 0 then trailers s else behind_content (next (sum + size)) (line_end 0 (drop size s)))
 
--- so many chunks at most, after chunks whose sizes have a sum
+-- this many chunks at most, after chunks whose sizes have a sum
 unfoldable pub chunks : ℕ → ℕ → List ℕ → Part
 chunks zero sum s = wrong content_too_large
 chunks (suc left) sum s = behind_line (chunks left) sum (chunk_line s)
@@ -115,7 +126,7 @@ chunks (suc left) sum s = behind_line (chunks left) sum (chunk_line s)
 abbrev pub chunked : List ℕ → Part
 chunked s = chunks (body_limit + 1) 0 s
 
--- the verdict on a body of which this part was read of so many bytes
+-- the verdict on a body of which this part was read of this many bytes
 abbrev pub verdict_of : ℕ → Part → BodyVerdict
 verdict_of total cut = more
 verdict_of total (wrong code) = refused code

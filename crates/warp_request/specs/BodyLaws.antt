@@ -6,7 +6,8 @@ use Rattle.warp_request.specs.Laws.{IsRefusalStatus}
 
 -- a body that is whole or refused stays so, whatever bytes follow
 abbrev pub BodyStaysSettled : Framing → List ℕ → Type 0
-BodyStaysSettled framing s = (t : List ℕ) (v : BodyVerdict) → body_of framing s ≡ v → v ≢ more → body_of framing (s ++ t) ≡ v
+BodyStaysSettled framing s =
+    (t : List ℕ) (v : BodyVerdict) → body_of framing s ≡ v → v ≢ more → body_of framing (s ++ t) ≡ v
 
 -- a body that is whole is in its bytes
 abbrev pub BodyLiesIn : Framing → List ℕ → Type 0

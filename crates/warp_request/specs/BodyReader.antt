@@ -1,5 +1,7 @@
--- To be believed: what a state says of a body (`state_verdict`); the rest is how a reader represents the bytes that it used.
-use Rattle.std.specs.Prelude.{◌≡◌, ℕ, suc, ◌+◌, ◌<◌, ◌≤◌, ◌^◌, true, false, List, ◌∷◌, ◌++◌, Option, Some, None, length, drop}
+-- To be believed: what a state says of a body (`state_verdict`); the rest is how a reader
+-- represents the bytes that it used.
+use Rattle.std.specs.Prelude.{◌≡◌, ℕ, suc, ◌+◌, ◌<◌, ◌≤◌, ◌^◌, true, false, List, ◌∷◌, ◌++◌, Option, Some}
+use Rattle.std.specs.Prelude.{None, length, drop}
 use Rattle.std.specs.List.{list_all}
 use Rattle.httparse.specs.Ascii.{carriage_return}
 use Rattle.warp_request.specs.declared.body_place.BodyPlace.{BodyPlace}
@@ -15,15 +17,18 @@ use Rattle.warp_request.specs.LimitsAndWords.{body_limit, chunk_digits, chunk_li
 use Rattle.warp_response.specs.Statuses.{bad_request}
 use Rattle.warp_request.specs.declared.verdict.Framing.{Framing}
 use Rattle.warp_request.specs.declared.verdict.Framing.TheVariants as Framings
-use Rattle.warp_request.specs.Body.{BodyVerdict, more, refused, whole, Part, past, wrong, behind_content, behind_extension, body_of, chunked, chunks, is_hex, line_end, line_of, number_of, section_of, trailers}
+use Rattle.warp_request.specs.Body.{BodyVerdict, more, refused, whole, Part, past, wrong, behind_content}
+use Rattle.warp_request.specs.Body.{behind_extension, body_of, chunked, chunks, is_hex, line_end, line_of}
+use Rattle.warp_request.specs.Body.{number_of, section_of, trailers}
 
--- what a state says of a body of which so many bytes were used
+-- what a state says of a body of which this many bytes were used
 abbrev pub state_verdict : BodyState → ℕ → BodyVerdict
 state_verdict States.More used = more
 state_verdict States.Whole used = whole used
 state_verdict (States.Refuse code) used = refused code
 
--- after these bytes a chunk line begins, with so many chunks left after its own and content of this sum before it
+-- after these bytes a chunk line begins, with this many chunks left after its own and
+-- content of this sum before it
 pub record HasChunks (before : List ℕ) (left sum : ℕ) : Type 0 where
   pub goes_on : (t : List ℕ) → chunked (before ++ t) ≡ chunks (suc left) sum t
   pub enough : body_limit ≤ left + sum
@@ -38,7 +43,7 @@ pub record InLine (Holds : List ℕ → Type 0) (sum : ℕ) (fed : List ℕ) : T
   pub chunks : HasChunks before left sum
   pub holds : Holds line
 
--- the front of a chunk line is so many digits, which mean a number
+-- the front of a chunk line is this many digits, which mean a number
 pub record IsDigits (count number : ℕ) (line : List ℕ) : Type 0 where
   pub all : list_all is_hex line ≡ true
   pub counted : length line ≡ count
@@ -46,7 +51,8 @@ pub record IsDigits (count number : ℕ) (line : List ℕ) : Type 0 where
   pub means : number_of line ≡ number
   pub small : number < 16 ^ count
 
--- the front of a chunk line, which may have so many more bytes, leaves this to be read of the bytes that follow
+-- the front of a chunk line, which may have this many more bytes, leaves this to be read
+-- of the bytes that follow
 pub record LeavesOfLine (room : ℕ) (rest : List ℕ → Part) (line : List ℕ) : Type 0 where
   pub kept : length line + room ≡ chunk_line_limit
   pub reads : (t : List ℕ) → line_of (line ++ t) ≡ rest t
@@ -65,7 +71,7 @@ section_at Lines.Inside t = section_of false t
 section_at Lines.StartReturn t = section_of true (carriage_return ∷ t)
 section_at Lines.InsideReturn t = section_of false (carriage_return ∷ t)
 
--- the bytes end in a trailer section, which may have so many more bytes, at a place in one of its lines
+-- the bytes end in a trailer section, which may have this many more bytes, at a place in one of its lines
 pub record InTrailers (room : ℕ) (line : TrailerLine) (fed : List ℕ) : Type 0 where
   pub before : List ℕ
   pub lines : List ℕ
@@ -84,15 +90,22 @@ state_at _ = States.More
 -- where the beginning of a body stands, after these bytes of it
 abbrev pub RepresentsAt : BodyPlace → ℕ → Framing → List ℕ → Type 0
 RepresentsAt (Places.Content behind) sum framing fed = framing ≡ Framings.Length (length fed + (behind + 1))
-RepresentsAt (Places.Size count number) sum framing fed = (framing ≡ Framings.Chunked) × InLine (IsDigits count number) sum fed
+RepresentsAt (Places.Size count number) sum framing fed =
+    (framing ≡ Framings.Chunked) × InLine (IsDigits count number) sum fed
 RepresentsAt (Places.Extension room number) sum framing fed =
-    (framing ≡ Framings.Chunked) × (1 ≤ room) × InLine (LeavesOfLine room (λ t. line_end number (behind_extension t))) sum fed
+    (framing ≡ Framings.Chunked) × (1 ≤ room)
+    × InLine (LeavesOfLine room (λ t. line_end number (behind_extension t))) sum fed
 RepresentsAt (Places.LineFeed number) sum framing fed =
-    (framing ≡ Framings.Chunked) × ((room : ℕ) × (1 ≤ room) × InLine (LeavesOfLine room (λ t. line_end number (carriage_return ∷ t))) sum fed)
-RepresentsAt (Places.Chunk behind) sum framing fed = (framing ≡ Framings.Chunked) × InContent (λ t. drop (behind + 1) t) sum fed
+    (framing ≡ Framings.Chunked)
+    × ((room : ℕ) × (1 ≤ room)
+    × InLine (LeavesOfLine room (λ t. line_end number (carriage_return ∷ t))) sum fed)
+RepresentsAt (Places.Chunk behind) sum framing fed =
+    (framing ≡ Framings.Chunked) × InContent (λ t. drop (behind + 1) t) sum fed
 RepresentsAt Places.ChunkReturn sum framing fed = (framing ≡ Framings.Chunked) × InContent (λ t. t) sum fed
-RepresentsAt Places.ChunkLineFeed sum framing fed = (framing ≡ Framings.Chunked) × InContent (λ t. carriage_return ∷ t) sum fed
-RepresentsAt (Places.Trailers room line) sum framing fed = (framing ≡ Framings.Chunked) × InTrailers room line fed
+RepresentsAt Places.ChunkLineFeed sum framing fed =
+    (framing ≡ Framings.Chunked) × InContent (λ t. carriage_return ∷ t) sum fed
+RepresentsAt (Places.Trailers room line) sum framing fed =
+    (framing ≡ Framings.Chunked) × InTrailers room line fed
 RepresentsAt Places.Whole sum framing fed = (t : List ℕ) → body_of framing (fed ++ t) ≡ whole (length fed)
 RepresentsAt (Places.Refused code) sum framing fed = (t : List ℕ) → body_of framing (fed ++ t) ≡ refused code
 
@@ -110,17 +123,18 @@ step_leaves Steps.Ends t = past 0 t
 step_leaves Steps.Breaks t = wrong bad_request
 step_leaves (Steps.Goes line) t = section_at line t
 
--- how many bytes of a piece belong to content that has one more byte and some after it, and how many are left after the next
+-- how many bytes of a piece belong to content that has one more byte and some after it, and
+-- how many are left after the next
 abbrev pub Skips : ℕ → ℕ → ℕ → Option ℕ → Type 0
 Skips behind size used None = (used ≡ behind + 1) × (used ≤ size)
 Skips behind size used (Some rest) = (used ≡ size) × (1 ≤ size) × (rest + size ≡ behind)
 
--- content of a known length of which so many bytes are left after the next, or none
+-- content of a known length of which this many bytes are left after the next, or none
 abbrev pub place_in_content : Option ℕ → BodyPlace
 place_in_content None = Places.Whole
 place_in_content (Some behind) = Places.Content behind
 
--- a chunk of which so many bytes are left after the next, or none
+-- a chunk of which this many bytes are left after the next, or none
 abbrev pub place_in_chunk : Option ℕ → BodyPlace
 place_in_chunk None = Places.ChunkReturn
 place_in_chunk (Some behind) = Places.Chunk behind

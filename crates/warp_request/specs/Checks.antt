@@ -1,12 +1,17 @@
 -- To be believed: the checks that a head has to pass, in their order.
-use Rattle.std.specs.Prelude.{ℕ, Bool, not, ◌&&◌, ◌==◌, List, [], ◌∷◌, ◌++◌, length, map, if◌then◌else◌, nat_lt, Option, Some, None}
+use Rattle.std.specs.Prelude.{ℕ, Bool, not, ◌&&◌, ◌==◌, List, [], ◌∷◌, ◌++◌, length, map, if◌then◌else◌}
+use Rattle.std.specs.Prelude.{nat_lt, Option, Some, None}
 use Rattle.std.specs.List.{list_all}
 use Rattle.httparse.specs.Grammar.{RequestHead, print_request}
 use Rattle.httparse.specs.Spans.{name_and_value}
-use Rattle.warp_request.specs.LimitsAndWords.{field_limit, body_limit, host_name, connection_name, transfer_encoding_name, content_length_name, expect_name}
-use Rattle.warp_response.specs.Statuses.{bad_request, content_too_large, expectation_failed, header_fields_too_large, not_implemented}
+use Rattle.warp_request.specs.LimitsAndWords.{field_limit, body_limit, host_name, connection_name}
+use Rattle.warp_request.specs.LimitsAndWords.{transfer_encoding_name, content_length_name, expect_name}
+use Rattle.warp_response.specs.Statuses.{bad_request, content_too_large, expectation_failed}
+use Rattle.warp_response.specs.Statuses.{header_fields_too_large, not_implemented}
 use Rattle.warp_request.specs.declared.verdict.Framing.{Framing}
-use Rattle.warp_request.specs.Content.{codings_of, ends_in_chunked, framing_of, has_other_coding, is_expect_fault, is_length_fault, is_there, length_in, waits_for_interim}
+use Rattle.warp_request.specs.Content.{codings_of, ends_in_chunked, framing_of, has_other_coding}
+use Rattle.warp_request.specs.Content.{is_expect_fault, is_length_fault, is_there, length_in}
+use Rattle.warp_request.specs.Content.{waits_for_interim}
 use Rattle.warp_request.specs.Fields.{members_of, values_of, is_host_fault, stays_open}
 use Rattle.warp_request.specs.Target.{is_visible, is_target_form}
 use Rattle.warp_request.specs.Verdict.{Verdict, refused, asked}
@@ -66,7 +71,8 @@ checks p = line_checks p (field_checks p.minor p.fields)
 
 -- the framing that the fields say
 abbrev pub framing_by : List (List ℕ × List ℕ) → Framing
-framing_by fields = framing_of (values_of transfer_encoding_name fields) (values_of content_length_name fields)
+framing_by fields =
+    framing_of (values_of transfer_encoding_name fields) (values_of content_length_name fields)
 
 -- the verdict on a head in which this fault was found
 abbrev pub verdict_by : Option ℕ → Parts → Verdict

@@ -1,5 +1,7 @@
--- To be believed: how the content of a request is delimited, and whether its client waits (RFC 9112, section 6; RFC 9110, section 10.1.1).
-use Rattle.std.specs.Prelude.{ℕ, ◌+◌, ◌*◌, ◌-◌, Bool, true, false, not, ◌&&◌, List, [], ◌∷◌, length, fold, get_or, if◌then◌else◌, ◌==◌, nat_le, nat_lt}
+-- To be believed: how the content of a request is delimited, and whether its client waits (RFC 9112,
+-- section 6; RFC 9110, section 10.1.1).
+use Rattle.std.specs.Prelude.{ℕ, ◌+◌, ◌*◌, ◌-◌, Bool, true, false, not, ◌&&◌, List, [], ◌∷◌, length, fold}
+use Rattle.std.specs.Prelude.{get_or, if◌then◌else◌, ◌==◌, nat_le, nat_lt}
 use Rattle.std.specs.List.{list_any, list_all, filter, count_by}
 use Rattle.std.specs.Str.{str_eq_ignore_ascii_case}
 use Rattle.warp_request.specs.LimitsAndWords.{chunked_word, continue_word}
@@ -22,7 +24,8 @@ is_chunked coding = str_eq_ignore_ascii_case coding chunked_word
 
 -- the last coding is `chunked`, and no other one is (RFC 9112, sections 6.1 and 6.3)
 unfoldable pub ends_in_chunked : List (List ℕ) → Bool
-ends_in_chunked codings = is_chunked (get_or codings (length codings - 1) []) && count_by is_chunked codings == 1
+ends_in_chunked codings =
+    is_chunked (get_or codings (length codings - 1) []) && count_by is_chunked codings == 1
 
 -- a coding is another one
 unfoldable pub has_other_coding : List (List ℕ) → Bool
@@ -51,7 +54,8 @@ length_in (member ∷ members) = decimal_of member
 
 -- a member is no number, an empty one too, or two are different numbers (RFC 9112, section 6.3)
 unfoldable pub is_length_fault : List (List ℕ) → Bool
-is_length_fault members = not (list_all (λ member. is_numeral member && decimal_of member == length_in members) members)
+is_length_fault members =
+    not (list_all (λ member. is_numeral member && decimal_of member == length_in members) members)
 
 -- an expectation is `100-continue`, the only one that there is (RFC 9110, section 10.1.1)
 abbrev pub is_continue : List ℕ → Bool
@@ -64,7 +68,8 @@ is_expect_fault minor values = minor == 1 && not (list_all is_continue values)
 -- the framing that the values of Transfer-Encoding and Content-Length lines say
 unfoldable pub framing_of : List (List ℕ) → List (List ℕ) → Framing
 framing_of codings lengths =
-    if is_there codings then framings.Chunked else (if is_there lengths then framings.Length (length_in (members_of lengths)) else framings.None)
+    if is_there codings then framings.Chunked
+    else (if is_there lengths then framings.Length (length_in (members_of lengths)) else framings.None)
 
 -- content may come
 abbrev pub has_content : Framing → Bool

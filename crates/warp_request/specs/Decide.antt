@@ -1,15 +1,31 @@
--- Inner: the proof that `beginning` has an answer for every text. Nobody need read it: what it makes is trusted by the type of `beginning`.
-use Rattle.std.proofs.Common.{◌≡◌, ℕ, zero, suc, ◌<◌, ◌≤◌, ◌⊎◌, Bool, true, false, List, [], ◌∷◌, ◌++◌, length, refl, sym, ap, ◌∙◌, subst, arith, append-nil, length-append, inl, inr, IsUtf8}
+-- Inner: the proof that `beginning` has an answer for every text. Nobody need read it: what it makes is
+-- trusted by the type of `beginning`.
+use Rattle.std.proofs.Common.{◌≡◌, ℕ, zero, suc, ◌<◌, ◌≤◌, ◌⊎◌, Bool, true, false, List, [], ◌∷◌, ◌++◌}
+use Rattle.std.proofs.Common.{length, refl, sym, ap, ◌∙◌, subst, arith, append-nil, length-append, inl, inr}
+use Rattle.std.proofs.Common.{IsUtf8}
 use Rattle.std.specs.Str.{is_utf8}
 use Rattle.std.proofs.lemmas.Bool.{cases_eq, both_ways}
 use Rattle.std.proofs.lemmas.List.Elements.{All-nil, All-cons}
 use Rattle.std.proofs.lemmas.Str.{IsUtf8-from_is_utf8, is_utf8-from_IsUtf8}
-use Rattle.httparse.specs.Grammar.{is_token_byte, is_uri_byte, is_value_byte, AllPass, LineEnd, crlf, lf, print_end, print_blank, print_version, Field}
-use Rattle.httparse.specs.Pieces.{Piece, Begins, Then, Refutes, NotYet, Never, Completes, Stops, is_newline, Bytes, Newline, BlankLines, Blank, Word, Method, Target, Version, Text, FieldLine, FieldLines, BeginsLine, CompletesLine, Section, RequestStart, MayBecomeRequestStart}
+use Rattle.httparse.specs.Grammar.{is_token_byte, is_uri_byte, is_value_byte, AllPass, LineEnd, crlf, lf}
+use Rattle.httparse.specs.Grammar.{print_end, print_blank, print_version, Field}
+use Rattle.httparse.specs.Pieces.{Piece, Begins, Then, Refutes, NotYet, Never, Completes, Stops, is_newline}
+use Rattle.httparse.specs.Pieces.{Bytes, Newline, BlankLines, Blank, Word, Method, Target, Version, Text}
+use Rattle.httparse.specs.Pieces.{FieldLine, FieldLines, BeginsLine, CompletesLine, Section, RequestStart}
+use Rattle.httparse.specs.Pieces.{MayBecomeRequestStart}
 use Rattle.httparse.proofs.RunLemmas.{run_unique, run_unstopped}
-use Rattle.httparse.proofs.PieceLemmas.{IsDeterministic, Refutes_by, Never_intro, Never_elim, NotYet_intro, Refutes_first, Refutes_next, front-append, Word_deterministic, Method_deterministic, Target_deterministic, Version_deterministic, Blank_deterministic, Name_deterministic, Stops_value, Stops-FieldLine, FieldLines_push, space_ends_token, colon_ends_token}
-use Rattle.httparse.proofs.ReadLemmas.{Blank_after, Blank_newline, blank_more, BeginsLine_either, FieldLine_at_newline, Newline_at_other, FieldLine_row, FieldLine_done, Section_after, Section_done}
-use Rattle.httparse.proofs.OpenLemmas.{Completes_first, Completes_next, some_newline, some_bytes, some_version, some_target, some_text, Newline_after_cr, BlankLines_after, Word_cut, letter_is_token, FieldLine_of_row, Section_after_lines, Section_of_line, line_blank, ends_in_target}
+use Rattle.httparse.proofs.PieceLemmas.{IsDeterministic, Refutes_by, Never_intro, Never_elim, NotYet_intro}
+use Rattle.httparse.proofs.PieceLemmas.{Refutes_first, Refutes_next, front-append, Word_deterministic}
+use Rattle.httparse.proofs.PieceLemmas.{Method_deterministic, Target_deterministic, Version_deterministic}
+use Rattle.httparse.proofs.PieceLemmas.{Blank_deterministic, Name_deterministic, Stops_value, Stops-FieldLine}
+use Rattle.httparse.proofs.PieceLemmas.{FieldLines_push, space_ends_token, colon_ends_token}
+use Rattle.httparse.proofs.ReadLemmas.{Blank_after, Blank_newline, blank_more, BeginsLine_either}
+use Rattle.httparse.proofs.ReadLemmas.{FieldLine_at_newline, Newline_at_other, FieldLine_row, FieldLine_done}
+use Rattle.httparse.proofs.ReadLemmas.{Section_after, Section_done}
+use Rattle.httparse.proofs.OpenLemmas.{Completes_first, Completes_next, some_newline, some_bytes}
+use Rattle.httparse.proofs.OpenLemmas.{some_version, some_target, some_text, Newline_after_cr}
+use Rattle.httparse.proofs.OpenLemmas.{BlankLines_after, Word_cut, letter_is_token, FieldLine_of_row}
+use Rattle.httparse.proofs.OpenLemmas.{Section_after_lines, Section_of_line, line_blank, ends_in_target}
 
 -- what a text is to a piece: May is what is known of one that may become it
 pub data Decision {A : Type 0} (G : Piece A) (May : List ℕ → Type 0) (s : List ℕ) : Type 0 where
@@ -26,14 +42,16 @@ never_yet nay = record { none = λ more _ h. Never_elim nay more h }
 
 -- ---- one piece and then another
 
-module _ {A B : Type 0} {G : Piece A} {H : Piece B} {MayH May : List ℕ → Type 0} (det : IsDeterministic G) where
+module _ {A B : Type 0} {G : Piece A} {H : Piece B} {MayH May : List ℕ → Type 0}
+    (det : IsDeterministic G) where
   second : (s : List ℕ) → ((a : A) (t : List ℕ) → G a s t → MayH t → May s)
       → (a : A) (t : List ℕ) → G a s t → Decision H MayH t → Decision (Then G H) May s
   second s next a t x (found b rest y) = found (a, b) rest (t, x, y)
   second s next a t x (cut nay may) = cut (Refutes_next H det x nay) (next a t x may)
   second s next a t x (never nay) = never (Refutes_next H det x nay)
 
-  pub decide_then : {MayG : List ℕ → Type 0} (s : List ℕ) → (MayG s → May s) → ((a : A) (t : List ℕ) → G a s t → MayH t → May s)
+  pub decide_then : {MayG : List ℕ → Type 0} (s : List ℕ) → (MayG s → May s)
+      → ((a : A) (t : List ℕ) → G a s t → MayH t → May s)
       → Decision G MayG s → ((t : List ℕ) → Decision H MayH t) → Decision (Then G H) May s
   decide_then s first next (found a t x) rest = second s next a t x (rest t)
   decide_then s first next (cut nay may) rest = cut (Refutes_first G H nay) (first may)
@@ -53,7 +71,8 @@ newline_of_cr : (e : LineEnd) (b : ℕ) (rest : List ℕ) → (b ≡ 10 → ⊥)
 newline_of_cr crlf b rest nay e = cc
 newline_of_cr lf b rest nay e = nay (cc)
 
-newline_after : (e : LineEnd) (b c : ℕ) (t rest : List ℕ) → (b ≡ 10 → ⊥) → (c ≡ 10 → ⊥) → Newline e (b ∷ c ∷ t) rest → ⊥
+newline_after : (e : LineEnd) (b c : ℕ) (t rest : List ℕ) → (b ≡ 10 → ⊥) → (c ≡ 10 → ⊥)
+    → Newline e (b ∷ c ∷ t) rest → ⊥
 newline_after crlf b c t rest nay other e = other (cc)
 newline_after lf b c t rest nay other e = nay (cc)
 
@@ -70,7 +89,8 @@ second_byte b c s nay cr (inr other) =
 first_byte : (b : ℕ) (s : List ℕ) → (b ≡ 10) ⊎ (b ≡ 10 → ⊥) → (b ≡ 13) ⊎ (b ≡ 13 → ⊥)
     → Decision Newline (Completes Newline) (b ∷ s)
 first_byte b s (inl e) _ = found lf s (cc)
-first_byte b [] (inr nay) (inl cr) = cut (NotYet_intro (λ h. newline_of_cr h.0 b h.1 nay h.2)) (Newline_after_cr (cc))
+first_byte b [] (inr nay) (inl cr) =
+    cut (NotYet_intro (λ h. newline_of_cr h.0 b h.1 nay h.2)) (Newline_after_cr (cc))
 first_byte b (c ∷ s) (inr nay) (inl cr) = second_byte b c s nay cr (cases_eq c 10)
 first_byte b s (inr nay) (inr nor) =
     never (Never_intro (λ more h. neither b (newline_first h.0 b (s ++ more) h.1 h.2) nay nor))
@@ -90,7 +110,8 @@ pub record Split (test : ℕ → Bool) (s : List ℕ) : Type 0 where
   pub whole : s ≡ run ++ rest
   pub stops : (rest ≡ []) ⊎ Stops test rest
 
-split_at : (test : ℕ → Bool) (b : ℕ) (s : List ℕ) → (test b ≡ true) ⊎ (test b ≡ false) → Split test s → Split test (b ∷ s)
+split_at : (test : ℕ → Bool) (b : ℕ) (s : List ℕ) → (test b ≡ true) ⊎ (test b ≡ false)
+    → Split test s → Split test (b ∷ s)
 split_at test b s (inl yea) r = record {
   run = b ∷ r.run;
   rest = r.rest;
@@ -148,7 +169,8 @@ target_text s w rest x (inr nay) = never (Never_intro λ more h.
     let same = word.unique h.0 w (s ++ more) h.1 (rest ++ more) h.2.0 (word.append w s rest more x) in
     both_ways (is_utf8 w) nay (is_utf8-from_IsUtf8 w (subst IsUtf8 same.0 h.2.1)))
 
-target_of : (s : List ℕ) → Decision (Word is_uri_byte 32) (AllPass is_uri_byte) s → Decision Target (AllPass is_uri_byte) s
+target_of : (s : List ℕ) → Decision (Word is_uri_byte 32) (AllPass is_uri_byte) s
+    → Decision Target (AllPass is_uri_byte) s
 target_of s (found w rest x) = target_text s w rest x (sides (is_utf8 w))
 target_of s (cut nay may) = cut (Refutes_by (λ more h. (h.0, h.1, h.2.0)) nay) may
 target_of s (never nay) = never (Refutes_by (λ more h. (h.0, h.1, h.2.0)) nay)
@@ -166,7 +188,8 @@ bytes_more c b bytes s e (cut nay may) = cut (Refutes_by (λ more h. (tt, h.1, (
     (record { more = may.more; tree = tt; reads = λ rest. let x = may.reads rest in (cc) })
 bytes_more c b bytes s e (never nay) = never (Refutes_by (λ more h. (tt, h.1, (cc))) nay)
 
-bytes_at : (c b : ℕ) (bytes s : List ℕ) → (b ≡ c) ⊎ (b ≡ c → ⊥) → Decision (Bytes bytes) (Completes (Bytes bytes)) s
+bytes_at : (c b : ℕ) (bytes s : List ℕ) → (b ≡ c) ⊎ (b ≡ c → ⊥)
+    → Decision (Bytes bytes) (Completes (Bytes bytes)) s
     → Decision (Bytes (c ∷ bytes)) (Completes (Bytes (c ∷ bytes))) (b ∷ s)
 bytes_at c b bytes s (inl e) d = bytes_more c b bytes s e d
 bytes_at c b bytes s (inr nay) d = never (Never_intro (λ more h. nay (cc)))
@@ -192,17 +215,22 @@ no_version old new = record {
   ];
 }
 
-completes_version : (minor : ℕ) (s : List ℕ) → minor ≤ 1 → Completes (Bytes (print_version minor)) s → Completes Version s
-completes_version minor s small x = record { more = x.more; tree = minor; reads = λ rest. (small, x.reads rest) }
+completes_version : (minor : ℕ) (s : List ℕ) → minor ≤ 1 → Completes (Bytes (print_version minor)) s
+    → Completes Version s
+completes_version minor s small x =
+    record { more = x.more; tree = minor; reads = λ rest. (small, x.reads rest) }
 
 version_of : (s : List ℕ) → Decision (Bytes (print_version 0)) (Completes (Bytes (print_version 0))) s
-    → Decision (Bytes (print_version 1)) (Completes (Bytes (print_version 1))) s → Decision Version (Completes Version) s
+    → Decision (Bytes (print_version 1)) (Completes (Bytes (print_version 1))) s
+    → Decision Version (Completes Version) s
 version_of s (found a rest x) _ = found 0 rest (omega arith, x)
 version_of s (cut nay may) (found a rest x) = found 1 rest (omega arith, x)
 version_of s (cut nay may) (cut nor y) = cut (no_version nay nor) (completes_version 0 s (omega arith) may)
-version_of s (cut nay may) (never nor) = cut (no_version nay (never_yet nor)) (completes_version 0 s (omega arith) may)
+version_of s (cut nay may) (never nor) =
+    cut (no_version nay (never_yet nor)) (completes_version 0 s (omega arith) may)
 version_of s (never nay) (found a rest x) = found 1 rest (omega arith, x)
-version_of s (never nay) (cut nor may) = cut (no_version (never_yet nay) nor) (completes_version 1 s (omega arith) may)
+version_of s (never nay) (cut nor may) =
+    cut (no_version (never_yet nay) nor) (completes_version 1 s (omega arith) may)
 version_of s (never nay) (never nor) = never (no_version nay nor)
 
 -- a version
@@ -220,9 +248,11 @@ newline_shorter : (e : LineEnd) (s r : List ℕ) → Newline e s r → length r 
 newline_shorter crlf s r x = omega (arith, ap length x)
 newline_shorter lf s r x = omega (arith, ap length x)
 
-blank_at : (text : List ℕ) (es : List LineEnd) (b : ℕ) (s : List ℕ) → text ≡ print_blank es ++ b ∷ s → is_newline b ≡ true
+blank_at : (text : List ℕ) (es : List LineEnd) (b : ℕ) (s : List ℕ) → text ≡ print_blank es ++ b ∷ s
+    → is_newline b ≡ true
     → Decision Newline (Completes Newline) (b ∷ s)
-    → ((e : LineEnd) (r : List ℕ) → length r ≤ length s → text ≡ print_blank (es ++ e ∷ []) ++ r → Decision Blank (Completes BlankLines) text)
+    → ((e : LineEnd) (r : List ℕ) → length r ≤ length s → text ≡ print_blank (es ++ e ∷ []) ++ r
+    → Decision Blank (Completes BlankLines) text)
     → Decision Blank (Completes BlankLines) text
 blank_at text es b s is newline (found e r x) again =
     again e r (omega (arith, newline_shorter e (b ∷ s) r x)) (blank_more es e text (b ∷ s) r is x)
@@ -233,18 +263,22 @@ blank_at text es b s is newline (never nay) again =
 
 blank_side : (text : List ℕ) (es : List LineEnd) (b : ℕ) (s : List ℕ) → text ≡ print_blank es ++ b ∷ s
     → (is_newline b ≡ true) ⊎ (is_newline b ≡ false)
-    → ((e : LineEnd) (r : List ℕ) → length r ≤ length s → text ≡ print_blank (es ++ e ∷ []) ++ r → Decision Blank (Completes BlankLines) text)
+    → ((e : LineEnd) (r : List ℕ) → length r ≤ length s → text ≡ print_blank (es ++ e ∷ []) ++ r
+    → Decision Blank (Completes BlankLines) text)
     → Decision Blank (Completes BlankLines) text
 blank_side text es b s is (inl newline) again = blank_at text es b s is newline (decide_newline (b ∷ s)) again
 blank_side text es b s is (inr other) again = found es (b ∷ s) (is, other)
 
-blank_from : (n : ℕ) (text : List ℕ) (es : List LineEnd) (s : List ℕ) → length s ≤ n → text ≡ print_blank es ++ s
+blank_from : (n : ℕ) (text : List ℕ) (es : List LineEnd) (s : List ℕ) → length s ≤ n
+    → text ≡ print_blank es ++ s
     → Decision Blank (Completes BlankLines) text
 blank_from n text es [] fits is =
-    cut (Blank_after es is (NotYet_intro (λ h. blank_of_none h.0 h.1 h.2))) (BlankLines_after es is some_newline)
+    cut (Blank_after es is (NotYet_intro (λ h. blank_of_none h.0 h.1 h.2)))
+    (BlankLines_after es is some_newline)
 blank_from zero text es (b ∷ s) fits is = absurd (omega (arith, fits))
 blank_from (suc n) text es (b ∷ s) fits is =
-    blank_side text es b s is (sides (is_newline b)) (λ e r short also. blank_from n text (es ++ e ∷ []) r (omega (arith, fits, short)) also)
+    blank_side text es b s is (sides (is_newline b))
+    (λ e r short also. blank_from n text (es ++ e ∷ []) r (omega (arith, fits, short)) also)
 
 -- empty lines
 pub decide_blank : (s : List ℕ) → Decision Blank (Completes BlankLines) s
@@ -279,10 +313,12 @@ decide_method_on : (s : List ℕ) → Decision (Then Method (Then Target (Then V
 unfolding AfterMethod
 decide_method_on s =
     decide_then Method_deterministic s
-    (λ all. inl (Completes_first (Word_cut is_token_byte 32 65 letter_is_token all) (Completes_first some_target (Completes_first some_version some_newline))))
+    (λ all. inl (Completes_first (Word_cut is_token_byte 32 65 letter_is_token all)
+    (Completes_first some_target (Completes_first some_version some_newline))))
     (λ a t x may. method_next s a t x may) (decide_word is_token_byte 32 space_ends_token s) decide_target_on
 
-blank_next : (s : List ℕ) (es : List LineEnd) (t : List ℕ) → Blank es s t → AfterMethod t → MayBecomeRequestStart s
+blank_next : (s : List ℕ) (es : List LineEnd) (t : List ℕ) → Blank es s t → AfterMethod t
+    → MayBecomeRequestStart s
 unfolding AfterMethod
 blank_next s es t x (inl may) = inl (Completes_next Blank_deterministic {a = es} x may)
 blank_next s es t x (inr p) = inr (ends_in_target es p.0 p.1 x p.2 p.3)
@@ -295,7 +331,8 @@ decide_start s =
 
 -- ---- fields
 
-text_refuted : {M : List ℕ → Type 0} (s w rest : List ℕ) → AllPass is_value_byte w → s ≡ w ++ rest → Stops is_value_byte rest
+text_refuted : {M : List ℕ → Type 0} (s w rest : List ℕ) → AllPass is_value_byte w
+    → s ≡ w ++ rest → Stops is_value_byte rest
     → Refutes M (Begins Newline) rest → Refutes M (Begins Text) s
 text_refuted s w rest pass whole stops = Refutes_by λ more h.
     let same = run_unique is_value_byte h.0.0 w (print_end h.0.1 ++ h.1) (rest ++ more) h.2.0 pass
@@ -308,18 +345,22 @@ text_refuted s w rest pass whole stops = Refutes_by λ more h.
 
 text_end : (s w rest : List ℕ) → AllPass is_value_byte w → s ≡ w ++ rest → Stops is_value_byte rest
     → Decision Newline (Completes Newline) rest → Decision Text (Completes Text) s
-text_end s w rest pass whole stops (found e q x) = found (w, e) q (pass, whole ∙ ap (λ (t : List ℕ). w ++ t) x)
+text_end s w rest pass whole stops (found e q x) =
+    found (w, e) q (pass, whole ∙ ap (λ (t : List ℕ). w ++ t) x)
 text_end s w rest pass whole stops (cut nay may) = cut (text_refuted s w rest pass whole stops nay) (record {
   more = may.more;
   tree = (w, may.tree);
-  reads = λ q. (pass, front-append s w rest (may.more ++ q) whole ∙ ap (λ (t : List ℕ). w ++ t) (may.reads q));
+  reads =
+      λ q. (pass, front-append s w rest (may.more ++ q) whole ∙ ap (λ (t : List ℕ). w ++ t) (may.reads q));
 })
 text_end s w rest pass whole stops (never nay) = never (text_refuted s w rest pass whole stops nay)
 
-text_at : (s w rest : List ℕ) → AllPass is_value_byte w → s ≡ w ++ rest → (rest ≡ []) ⊎ Stops is_value_byte rest
+text_at : (s w rest : List ℕ) → AllPass is_value_byte w → s ≡ w ++ rest
+    → (rest ≡ []) ⊎ Stops is_value_byte rest
     → Decision Text (Completes Text) s
 text_at s w rest pass whole (inl e) =
-    let all : AllPass is_value_byte s = subst (AllPass is_value_byte) (sym (whole ∙ ap (λ (t : List ℕ). w ++ t) e ∙ append-nil w)) pass in
+    let all : AllPass is_value_byte s =
+    subst (AllPass is_value_byte) (sym (whole ∙ ap (λ (t : List ℕ). w ++ t) e ∙ append-nil w)) pass in
     cut (NotYet_intro λ h. run_unstopped is_value_byte h.0.0 (print_end h.0.1 ++ h.1)
     (subst (AllPass is_value_byte) h.2.1 all) (Stops_value h.0.1 h.1))
     (record { more = 10 ∷ []; tree = (s, lf); reads = λ q. (all, refl) })
@@ -329,7 +370,8 @@ text_at s w rest pass whole (inr stops) = text_end s w rest pass whole stops (de
 pub decide_text : (s : List ℕ) → Decision Text (Completes Text) s
 decide_text s = let r = run_split is_value_byte s in text_at s r.run r.rest r.pass r.whole r.stops
 
-decide_row : (s : List ℕ) → Decision (Then (Word is_token_byte 58) Text) (Completes (Then (Word is_token_byte 58) Text)) s
+decide_row : (s : List ℕ)
+    → Decision (Then (Word is_token_byte 58) Text) (Completes (Then (Word is_token_byte 58) Text)) s
 decide_row s =
     decide_then Name_deterministic s
     (λ all. Completes_first (Word_cut is_token_byte 58 65 letter_is_token all) some_text)
@@ -343,22 +385,34 @@ pub data Line (s : List ℕ) : Type 0 where
   short : NotYet BeginsLine s → CompletesLine s → Line s
   wrong : Never BeginsLine s → Line s
 
-then_shorter : (s t rest name raw : List ℕ) (e : LineEnd) → Word is_token_byte 58 name s t → Text (raw, e) t rest
+then_shorter : (s t rest name raw : List ℕ) (e : LineEnd) → Word is_token_byte 58 name s t
+    → Text (raw, e) t rest
     → length rest < length s
 then_shorter s t rest name raw e word value =
-    omega (arith, ap length word.2, length-append name (58 ∷ t), ap length value.1, length-append raw (print_end e ++ rest), length-append (print_end e) rest)
+    omega (
+      arith,
+      ap length word.2,
+      length-append name (58 ∷ t),
+      ap length value.1,
+      length-append raw (print_end e ++ rest),
+      length-append (print_end e) rest,
+    )
 
 line_other : (b : ℕ) (s : List ℕ) → is_newline b ≡ false
-    → Decision (Then (Word is_token_byte 58) Text) (Completes (Then (Word is_token_byte 58) Text)) (b ∷ s) → Line (b ∷ s)
+    → Decision (Then (Word is_token_byte 58) Text) (Completes (Then (Word is_token_byte 58) Text)) (b ∷ s)
+    → Line (b ∷ s)
 line_other b s other (found a rest x) =
-    field (record { name = a.0; raw = a.1.0; end = a.1.1 }) rest (FieldLine_done a.0 a.1.0 a.1.1 (b ∷ s) x.0 rest x.1 x.2)
+    field (record { name = a.0; raw = a.1.0; end = a.1.1 }) rest
+    (FieldLine_done a.0 a.1.0 a.1.1 (b ∷ s) x.0 rest x.1 x.2)
     (then_shorter (b ∷ s) x.0 rest a.0 a.1.0 a.1.1 x.1 x.2)
 line_other b s other (cut nay may) =
-    short (BeginsLine_either (Newline_at_other _ (b ∷ s) 0 (omega arith) other) (FieldLine_row nay)) (inr (FieldLine_of_row may))
+    short (BeginsLine_either (Newline_at_other _ (b ∷ s) 0 (omega arith) other) (FieldLine_row nay))
+    (inr (FieldLine_of_row may))
 line_other b s other (never nay) =
     wrong (BeginsLine_either (Newline_at_other _ (b ∷ s) 0 (omega arith) other) (FieldLine_row nay))
 
-line_newline : (b : ℕ) (s : List ℕ) → is_newline b ≡ true → Decision Newline (Completes Newline) (b ∷ s) → Line (b ∷ s)
+line_newline : (b : ℕ) (s : List ℕ) → is_newline b ≡ true → Decision Newline (Completes Newline) (b ∷ s)
+    → Line (b ∷ s)
 line_newline b s newline (found e rest x) = last e rest x
 line_newline b s newline (cut nay may) =
     short (BeginsLine_either nay (FieldLine_at_newline _ (b ∷ s) 0 (omega arith) newline)) (inl may)
@@ -379,10 +433,13 @@ decide_line [] = short (NotYet_intro no_line) (inl some_newline)
 decide_line (b ∷ s) = line_side b s (sides (is_newline b))
 
 section_step : (text : List ℕ) (fs : List Field) (s : List ℕ) → FieldLines fs text s → Line s
-    → ((gs : List Field) (r : List ℕ) → length r < length s → FieldLines gs text r → Decision Section (Completes Section) text)
+    → ((gs : List Field) (r : List ℕ) → length r < length s → FieldLines gs text r
+    → Decision Section (Completes Section) text)
     → Decision Section (Completes Section) text
-section_step text fs s lines (last e rest x) again = found (fs, e) rest (Section_done fs e text s rest lines x)
-section_step text fs s lines (field f rest x shorter) again = again (fs ++ f ∷ []) rest shorter (FieldLines_push fs f text s rest lines x)
+section_step text fs s lines (last e rest x) again =
+    found (fs, e) rest (Section_done fs e text s rest lines x)
+section_step text fs s lines (field f rest x shorter) again =
+    again (fs ++ f ∷ []) rest shorter (FieldLines_push fs f text s rest lines x)
 section_step text fs s lines (short nay may) again =
     cut (Section_after fs lines nay) (Section_after_lines fs lines (Section_of_line may))
 section_step text fs s lines (wrong nay) again = never (Section_after fs lines nay)
@@ -391,7 +448,8 @@ section_from : (n : ℕ) (text : List ℕ) (fs : List Field) (s : List ℕ) → 
     → Decision Section (Completes Section) text
 section_from zero text fs s fits lines = absurd (omega (arith, fits))
 section_from (suc n) text fs s fits lines =
-    section_step text fs s lines (decide_line s) (λ gs r shorter also. section_from n text gs r (omega (arith, fits, shorter)) also)
+    section_step text fs s lines (decide_line s)
+    (λ gs r shorter also. section_from n text gs r (omega (arith, fits, shorter)) also)
 
 -- a section of fields
 pub decide_section : (s : List ℕ) → Decision Section (Completes Section) s

@@ -1,4 +1,5 @@
--- To be believed: the fields of a head by name; each is a name and a value without the spaces and tabs at its ends.
+-- To be believed: the fields of a head by name; each is a name and a value without the
+-- spaces and tabs at its ends.
 use Rattle.std.specs.Prelude.{ℕ, Bool, true, not, ◌&&◌, ◌||◌, List, [], ◌∷◌, map, codes, ◌==◌}
 use Rattle.std.specs.List.{list_any, list_all, filter, flat_map, slice_split}
 use Rattle.std.specs.Char.{is_ascii_alphanumeric}
@@ -11,7 +12,8 @@ use Rattle.warp_request.specs.LimitsAndWords.{close_word, keep_alive_word}
 unfoldable pub values_of : List ℕ → List (List ℕ × List ℕ) → List (List ℕ)
 values_of name fields = map (λ f. f.1) (filter (λ f. str_eq_ignore_ascii_case f.0 name) fields)
 
--- the members of a value that is a list: what stands between its commas, without the spaces and tabs at the ends (RFC 9110, section 5.6.1)
+-- the members of a value that is a list: what stands between its commas, without the spaces and tabs at the
+-- ends (RFC 9110, section 5.6.1)
 abbrev pub members_in : List ℕ → List (List ℕ)
 members_in value = map trim_ows (slice_split (λ b. b == comma) value)
 
@@ -39,4 +41,5 @@ is_host_fault minor (value ∷ other ∷ more) = true
 
 -- the connection stays open after the answer (RFC 9112, section 9.3)
 unfoldable pub stays_open : ℕ → List (List ℕ) → Bool
-stays_open minor values = not (has_member close_word values) && (minor == 1 || has_member keep_alive_word values)
+stays_open minor values =
+    not (has_member close_word values) && (minor == 1 || has_member keep_alive_word values)

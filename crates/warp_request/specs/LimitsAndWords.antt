@@ -1,4 +1,5 @@
--- To be believed: the limits, field names and words by which requests are read. Statuses stand in warp_response.
+-- To be believed: the limits, field names and words by which requests are read. Statuses
+-- stand in warp_response.
 use Rattle.std.specs.Prelude.{ℕ, List, codes}
 
 -- the most bytes of a head, with the empty lines before it

@@ -1,5 +1,6 @@
 -- Inner: what the lines of each name say together, as the code keeps it.
-use Rattle.std.specs.Prelude.{◌≡◌, ℕ, Bool, true, false, ◌||◌, List, [], ◌∷◌, Option, Some, None, Result, Ok, Err, bytes_eq, fold, length, if◌then◌else◌, ◌==◌, nat_lt}
+use Rattle.std.specs.Prelude.{◌≡◌, ℕ, Bool, true, false, ◌||◌, List, [], ◌∷◌, Option, Some, None, Result, Ok}
+use Rattle.std.specs.Prelude.{Err, bytes_eq, fold, length, if◌then◌else◌, ◌==◌, nat_lt}
 use Rattle.std.specs.List.{list_all}
 use Rattle.std.specs.Str.{str_eq_ignore_ascii_case}
 use Rattle.warp_request.specs.declared.coding.CodingLines.{CodingLines}
@@ -14,7 +15,8 @@ use Rattle.warp_request.specs.declared.host.HostLines.{HostLines}
 use Rattle.warp_request.specs.declared.host.HostLines.TheVariants.{Absent, Right, Wrong}
 use Rattle.warp_request.specs.declared.length.LengthLines.{LengthLines}
 use Rattle.warp_request.specs.declared.length.LengthLines.TheVariants as lengths
-use Rattle.warp_request.specs.LimitsAndWords.{body_limit, host_name, connection_name, transfer_encoding_name, content_length_name, expect_name, close_word, keep_alive_word}
+use Rattle.warp_request.specs.LimitsAndWords.{body_limit, host_name, connection_name, transfer_encoding_name}
+use Rattle.warp_request.specs.LimitsAndWords.{content_length_name, expect_name, close_word, keep_alive_word}
 use Rattle.warp_response.specs.Statuses.{bad_request, content_too_large, not_implemented}
 use Rattle.warp_request.specs.declared.verdict.Framing.{Framing}
 use Rattle.warp_request.specs.declared.verdict.Framing.TheVariants as framings
@@ -136,7 +138,8 @@ expect_with _ value = if is_continue value then expects.Continue else expects.Ot
 -- what Expect lines with these values say
 unfoldable pub expect_lines : List (List ℕ) → ExpectLines
 expect_lines [] = expects.Absent
-expect_lines (value ∷ values) = if list_all is_continue (value ∷ values) then expects.Continue else expects.Other
+expect_lines (value ∷ values) =
+    if list_all is_continue (value ∷ values) then expects.Continue else expects.Other
 
 -- something other than `100-continue` is expected
 abbrev pub expects_other : ExpectLines → Bool
@@ -209,4 +212,6 @@ framing_by_codings _ = Err bad_request
 -- the framing in a head of this minor version
 abbrev pub framing_said : ℕ → CodingLines → Lengths → Result Framing ℕ
 framing_said minor codings.Absent lengths = framing_by_length lengths
-framing_said minor lines lengths = if minor == 0 then Err bad_request else (if is_absent lengths then framing_by_codings lines else Err bad_request)
+framing_said minor lines lengths =
+    if minor == 0 then Err bad_request
+    else (if is_absent lengths then framing_by_codings lines else Err bad_request)

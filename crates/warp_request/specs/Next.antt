@@ -1,4 +1,5 @@
--- To be believed: what follows the last whole request, the head of a request, a refusal, or too little to say.
+-- To be believed: what follows the last whole request, the head of a request, a refusal,
+-- or too little to say.
 use Rattle.std.specs.Prelude.{ℕ, not, List, length, take, if◌then◌else◌, nat_lt}
 use Rattle.warp_request.specs.LimitsAndWords.{head_limit}
 use Rattle.warp_response.specs.Statuses.{bad_request, uri_too_long, header_fields_too_large}
@@ -15,7 +16,8 @@ window_of s = take head_limit s
 unfoldable pub waits : ℕ → List ℕ → Verdict
 waits code s = if nat_lt (length s) head_limit then more else refused code
 
--- where a head is at the front, its checks decide, and where none can come any more, it is refused; asked only once a line has ended, since only there the three cases exclude one another
+-- where a head is at the front, its checks decide, and where none can come any more, it is refused; asked
+-- only once a line has ended, since only there the three cases exclude one another
 unfoldable pub by_beginning : (s w : List ℕ) → Beginning w → Verdict
 by_beginning s w (whole h rest x) = checked (parts_of h)
 by_beginning s w (unfinished none may) = waits header_fields_too_large s

@@ -9,6 +9,7 @@ use Rattle.warp_request.specs.Shown.{shown, LiesIn}
 -- there is a head at the front with this verdict, there may be one, or there never is
 abbrev pub ParserAnswered : List ℕ → Parsed → Type 0
 ParserAnswered w (Whole verdict) =
-    ((h : RequestHead) × (rest : List ℕ) × ReadsRequest w h rest × (shown w verdict ≡ checked (parts_of h))) × LiesIn w verdict
+    ((h : RequestHead) × (rest : List ℕ) × ReadsRequest w h rest × (shown w verdict ≡ checked (parts_of h)))
+    × LiesIn w verdict
 ParserAnswered w Cut = HasNoRequest w × MayBecomeRequest w
 ParserAnswered w Wrong = NeverHasRequest w

@@ -1,5 +1,6 @@
-// Where the reading of a body stands, and where one more byte leads it: in chunk lines, after chunks and in
-// the trailer section (RFC 9112, section 7.1). Each place keeps what it needs of the bytes before it and no more.
+//! Where the reading of a body stands, and where one more byte leads it: in chunk lines, after chunks and in
+//! the trailer section (RFC 9112, section 7.1). Each place keeps what it needs of the
+//! bytes before it and no more.
 ghost use Rattle.std.specs.Prelude.{◌≡◌, ◌++◌, Bool, List, ℕ, None, [], ◌∷◌};
 ghost use Rattle.warp_request.specs.declared.verdict.Framing.{Framing as FramingOf};
 ghost use Rattle.warp_request.specs.Body.{hex_digit as digit_of, is_extension_byte, opens_extension, section_of};
@@ -53,7 +54,8 @@ pub(crate) enum BodyPlace {
     Content(u64),
     /// The digits of a chunk line: how many there were, and the number that they mean.
     Size(u8, u64),
-    /// What follows the digits of a chunk line: the most bytes that the line may still have, and the chunk's size.
+    /// What follows the digits of a chunk line: the most bytes that the line may still
+    /// have, and the chunk's size.
     Extension(usize, u64),
     /// The LF of a chunk line, after a chunk's size.
     LineFeed(u64),
@@ -105,7 +107,8 @@ fn hex_digit(byte: u8) -> Option<u64>
 
 /// After the digits of a chunk line comes one more digit, CR or an extension.
 pub(crate) fn behind_digits(count: u8, number: u64, byte: u8) -> BodyPlace
-    ensures { (sum : ℕ) (framing : FramingOf) (fed : List ℕ) → RepresentsAt (BodyPlace.Size count number) sum framing fed
+    ensures { (sum : ℕ) (framing : FramingOf) (fed : List ℕ)
+        → RepresentsAt (BodyPlace.Size count number) sum framing fed
         → RepresentsAt result sum framing (fed ++ byte ∷ []) }
 {
     match hex_digit(byte) {
@@ -122,7 +125,8 @@ pub(crate) fn behind_digits(count: u8, number: u64, byte: u8) -> BodyPlace
 /// After all digits of a chunk line comes CR or an extension.
 fn behind_number(count: u8, number: u64, byte: u8) -> BodyPlace
     requires { digit_of byte ≡ None }
-    ensures { (sum : ℕ) (framing : FramingOf) (fed : List ℕ) → RepresentsAt (BodyPlace.Size count number) sum framing fed
+    ensures { (sum : ℕ) (framing : FramingOf) (fed : List ℕ)
+        → RepresentsAt (BodyPlace.Size count number) sum framing fed
         → RepresentsAt result sum framing (fed ++ byte ∷ []) }
 {
     if count == 0 {
@@ -153,7 +157,8 @@ fn is_extension_text(byte: u8) -> bool
 
 /// In an extension comes one more byte of it, or CR.
 pub(crate) fn behind_extension(room: usize, number: u64, byte: u8) -> BodyPlace
-    ensures { (sum : ℕ) (framing : FramingOf) (fed : List ℕ) → RepresentsAt (BodyPlace.Extension room number) sum framing fed
+    ensures { (sum : ℕ) (framing : FramingOf) (fed : List ℕ)
+        → RepresentsAt (BodyPlace.Extension room number) sum framing fed
         → RepresentsAt result sum framing (fed ++ byte ∷ []) }
 {
     // The LF would stand beyond the limit of the line.
@@ -171,7 +176,8 @@ pub(crate) fn behind_extension(room: usize, number: u64, byte: u8) -> BodyPlace
 
 /// After the content of a chunk comes CR.
 pub(crate) fn behind_chunk(byte: u8) -> BodyPlace
-    ensures { (sum : ℕ) (framing : FramingOf) (fed : List ℕ) → RepresentsAt BodyPlace.ChunkReturn sum framing fed
+    ensures { (sum : ℕ) (framing : FramingOf) (fed : List ℕ)
+        → RepresentsAt BodyPlace.ChunkReturn sum framing fed
         → RepresentsAt result sum framing (fed ++ byte ∷ []) }
 {
     if byte == CARRIAGE_RETURN {
@@ -183,7 +189,8 @@ pub(crate) fn behind_chunk(byte: u8) -> BodyPlace
 
 /// After the CR of a chunk comes LF, and then the next chunk line.
 pub(crate) fn behind_chunk_return(byte: u8) -> BodyPlace
-    ensures { (sum : ℕ) (framing : FramingOf) (fed : List ℕ) → RepresentsAt BodyPlace.ChunkLineFeed sum framing fed
+    ensures { (sum : ℕ) (framing : FramingOf) (fed : List ℕ)
+        → RepresentsAt BodyPlace.ChunkLineFeed sum framing fed
         → RepresentsAt result sum framing (fed ++ byte ∷ []) }
 {
     if byte == LINE_FEED {
@@ -195,7 +202,8 @@ pub(crate) fn behind_chunk_return(byte: u8) -> BodyPlace
 
 /// In the trailer section comes one more byte.
 pub(crate) fn behind_trailer_byte(room: usize, line: TrailerLine, byte: u8) -> BodyPlace
-    ensures { (sum : ℕ) (framing : FramingOf) (fed : List ℕ) → RepresentsAt (BodyPlace.Trailers room line) sum framing fed
+    ensures { (sum : ℕ) (framing : FramingOf) (fed : List ℕ)
+        → RepresentsAt (BodyPlace.Trailers room line) sum framing fed
         → RepresentsAt result sum framing (fed ++ byte ∷ []) }
 {
     match trailer_step(line, byte) {

@@ -1,6 +1,6 @@
-// Reading a body: how many bytes of each piece belong to it, and when it is whole or refused. The content is
-// passed over by its length, so that a body costs no memory and no look at its bytes; only chunk lines and
-// trailers are looked at, byte by byte, because a piece may end anywhere in them.
+//! Reading a body: how many bytes of each piece belong to it, and when it is whole or refused. The content is
+//! passed over by its length, so that a body costs no memory and no look at its bytes; only chunk lines and
+//! trailers are looked at, byte by byte, because a piece may end anywhere in them.
 ghost use Rattle.std.specs.Prelude.{◌≡◌, ◌≢◌, ◌↔◌, ◌+◌, ◌≤◌, ◌<◌, ◌++◌, Bool, IsTrue, List, ℕ, None, [], ◌∷◌, length, take};
 ghost use Rattle.warp_request.specs.declared.verdict.Framing.{Framing as FramingOf};
 ghost use Rattle.warp_request.specs.Body.{body_of, more};
@@ -66,13 +66,15 @@ impl BodyReader {
     #[inline(always)]
     pub fn feed(&mut self, piece: &[u8]) -> Fed
         ensures within { result.used ≤ length piece.now }
-        // The state is what the definition says of all bytes laid end to end, of those used before and the piece.
+        // The state is what the definition says of all bytes laid end to end, of those
+        // used before and the piece.
         ensures state { (framing : FramingOf) (fed : List ℕ) → Represents self.old framing fed
             → body_of framing (fed ++ piece.now) ≡ state_verdict result.state (length fed + result.used) }
         ensures stands { (framing : FramingOf) (fed : List ℕ) → Represents self.old framing fed
             → Represents self.new framing (fed ++ take result.used piece.now) }
         // No shorter front of them settles the body: it is whole or refused with the last byte that was used.
-        ensures first { (framing : FramingOf) (fed : List ℕ) → Represents self.old framing fed → (n : ℕ) → n < result.used
+        ensures first { (framing : FramingOf) (fed : List ℕ) → Represents self.old framing fed
+            → (n : ℕ) → n < result.used
             → body_of framing (fed ++ take n piece.now) ≡ more }
         ensures shows { result.state ≡ state_of self.new }
         ensures all { state_of self.new ≡ BodyState.More → result.used ≡ length piece.now }
@@ -113,7 +115,8 @@ impl BodyReader {
         ensures within { result ≤ length bytes.now }
         ensures stands { (framing : FramingOf) (fed : List ℕ) → Represents self.old framing fed
             → Represents self.new framing (fed ++ take result bytes.now) }
-        ensures first { (framing : FramingOf) (fed : List ℕ) → Represents self.old framing fed → (n : ℕ) → n < result
+        ensures first { (framing : FramingOf) (fed : List ℕ) → Represents self.old framing fed
+            → (n : ℕ) → n < result
             → body_of framing (fed ++ take n bytes.now) ≡ more }
     {
         let first = bytes[0];
@@ -150,7 +153,8 @@ impl BodyReader {
     /// After the CR of a chunk line comes its LF, and then what the size of the chunk says.
     fn begin_chunk(&mut self, size: u64, byte: u8) -> usize
         ensures used { result ≡ 1 }
-        ensures stands { (framing : FramingOf) (fed : List ℕ) → RepresentsAt (BodyPlace.LineFeed size) self.old.sum framing fed
+        ensures stands { (framing : FramingOf) (fed : List ℕ)
+            → RepresentsAt (BodyPlace.LineFeed size) self.old.sum framing fed
             → Represents self.new framing (fed ++ byte ∷ []) }
     {
         if byte != LINE_FEED {
@@ -184,6 +188,3 @@ fn skip(behind: u64, size: usize) -> Skipped
         },
     }
 }
-
-#[cfg(test)]
-mod tests;

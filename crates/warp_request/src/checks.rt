@@ -1,4 +1,4 @@
-// The checks that a head has to pass. The first that fails gives the status of the refusal.
+//! The checks that a head has to pass. The first that fails gives the status of the refusal.
 ghost use Rattle.std.specs.Prelude.{◌≡◌, map};
 ghost use Rattle.httparse.specs.Spans.{IsRequestWithin, header_bytes};
 ghost use Rattle.warp_request.specs.Checks.{checked as checked_parts, first_fault, field_checks};
@@ -12,7 +12,7 @@ use httparse::spans::{HeaderSpan, RequestSpans};
 use warp_response::status::{BAD_REQUEST, HEADER_FIELDS_TOO_LARGE};
 
 /// The verdict on a head whose fields are the first `head.headers` of `spans`.
-pub(crate) fn checked(bytes: &[u8], spans: &[HeaderSpan], head: RequestSpans) -> Next
+pub(crate) fn check_head(bytes: &[u8], spans: &[HeaderSpan], head: RequestSpans) -> Next
     requires { IsRequestWithin bytes.now spans.now head }
     ensures is { shown bytes.now result ≡ checked_parts (parts_shown bytes.now spans.now head) }
     ensures within { LiesIn bytes.now result }

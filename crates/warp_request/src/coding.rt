@@ -1,5 +1,5 @@
-// The Transfer-Encoding lines of a head: whether their list of codings ends in `chunked`, the only coding that is
-// taken (RFC 9112, sections 6.1 and 6.3).
+//! The Transfer-Encoding lines of a head: whether their list of codings ends in `chunked`, the only coding
+//! that is taken (RFC 9112, sections 6.1 and 6.3).
 ghost use Rattle.std.specs.Prelude.{◌≡◌};
 ghost use Rattle.warp_request.specs.NamedLines.{coding_with, codings_with, opened};
 

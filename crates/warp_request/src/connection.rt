@@ -1,4 +1,4 @@
-// The Connection lines of a head: whether the connection stays open (RFC 9112, section 9.3).
+//! The Connection lines of a head: whether the connection stays open (RFC 9112, section 9.3).
 ghost use Rattle.std.specs.Prelude.{◌≡◌, ℕ, List};
 ghost use Rattle.warp_request.specs.Fields.{stays_open as stays_open_by};
 ghost use Rattle.warp_request.specs.NamedLines.{connection_lines, connection_with};
@@ -33,7 +33,8 @@ impl ConnectionLines {
     /// Whether the connection stays open after the answer to a request of this minor version.
     #[tactic(auto, unfolding(crate::specs::Fields::stays_open, crate::specs::NamedLines::connection_lines))]
     pub(crate) fn stays_open(self, minor: u8) -> bool
-        ensures { (values : List (List ℕ)) → self ≡ connection_lines values → result ≡ stays_open_by minor values }
+        ensures { (values : List (List ℕ)) → self ≡ connection_lines values
+            → result ≡ stays_open_by minor values }
     {
         !self.close && (minor == 1 || self.keep_alive)
     }

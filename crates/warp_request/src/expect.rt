@@ -1,5 +1,5 @@
-// The Expect lines of a head: whether the client waits for an interim answer before it sends its content
-// (RFC 9110, section 10.1.1).
+//! The Expect lines of a head: whether the client waits for an interim answer before it sends its content
+//! (RFC 9110, section 10.1.1).
 ghost use Rattle.std.specs.Prelude.{◌≡◌, ℕ, List};
 ghost use Rattle.warp_request.specs.declared.verdict.Framing.{Framing as FramingOf};
 ghost use Rattle.warp_request.specs.Content.{has_content as content_may_come, is_expect_fault, waits_for_interim};
@@ -34,7 +34,8 @@ impl ExpectLines {
     /// Whether a head of this minor version is refused for them.
     #[tactic(auto, using(crate::proofs::ExpectLemmas::expect_fault_is))]
     pub(crate) fn is_fault(self, minor: u8) -> bool
-        ensures { (values : List (List ℕ)) → self ≡ expect_lines values → result ≡ is_expect_fault minor values }
+        ensures { (values : List (List ℕ)) → self ≡ expect_lines values
+            → result ≡ is_expect_fault minor values }
     {
         minor == 1 && self.are_other()
     }
@@ -42,7 +43,8 @@ impl ExpectLines {
     /// Whether the client of a head of this minor version waits with content of this framing.
     #[tactic(auto, using(crate::proofs::ExpectLemmas::expect_waits_is))]
     pub(crate) fn waits(self, minor: u8, framing: Framing) -> bool
-        ensures { (values : List (List ℕ)) → self ≡ expect_lines values → result ≡ waits_for_interim minor values framing }
+        ensures { (values : List (List ℕ)) → self ≡ expect_lines values
+            → result ≡ waits_for_interim minor values framing }
     {
         minor == 1 && self.are_there() && has_content(framing)
     }

@@ -1,4 +1,4 @@
-// The fields that decide about a request, read in one pass.
+//! The fields that decide about a request, read in one pass.
 ghost use Rattle.std.specs.Prelude.{◌≡◌, ℕ, List, [], ◌∷◌, ◌++◌, length, map, All};
 ghost use Rattle.httparse.specs.Spans.{header_bytes, IsHeaderWithin};
 ghost use Rattle.warp_request.specs.NamedLines.{fields_say, lines_shown, named_lines};
@@ -64,7 +64,8 @@ impl<'a> NamedLines<'a> {
         }
     }
 
-    /// How the content is delimited, or the status of the first fault in the fields of a head of this minor version.
+    /// How the content is delimited, or the status of the first fault in the fields of a
+    /// head of this minor version.
     pub(crate) fn framing(self, minor: u8) -> Result<Framing, u16>
         ensures { (fields : List (List ℕ × List ℕ)) → lines_shown self.entry ≡ named_lines fields
             → result ≡ fields_say minor fields }

@@ -1,5 +1,5 @@
-// How the content of a request is delimited: by its Transfer-Encoding or its Content-Length lines, never by both
-// (RFC 9112, section 6).
+//! How the content of a request is delimited: by its Transfer-Encoding or its Content-Length lines, never
+//! by both (RFC 9112, section 6).
 ghost use Rattle.std.specs.Prelude.{◌≡◌};
 ghost use Rattle.warp_request.specs.NamedLines.{framing_by_codings, framing_by_length, framing_said, is_absent, lengths_shown};
 
@@ -57,6 +57,3 @@ fn by_codings(codings: CodingLines) -> Result<Framing, u16>
         _ => Err(BAD_REQUEST),
     }
 }
-
-#[cfg(test)]
-mod tests;

@@ -1,11 +1,12 @@
-// Reading a head: the parser decides, and then the checks. Where no head is whole, the request line has to be there first.
+//! Reading a head: the parser decides, and then the checks. Where no head is whole, the
+//! request line has to be there first.
 ghost use Rattle.std.specs.Prelude.{◌≡◌, ◌≤◌, ◌<◌, length};
 ghost use Rattle.warp_request.specs.Laws.{TellsOf, StaysSettled};
 ghost use Rattle.warp_request.specs.Next.{next_of, window_of, waits};
 ghost use Rattle.warp_request.specs.Parsed.{ParserAnswered};
 ghost use Rattle.warp_request.specs.Shown.{shown, LiesIn};
 
-use crate::checks::checked;
+use crate::checks::check_head;
 use crate::limits::{FIELD_ROOM, HEAD_LIMIT};
 use crate::lines::has_line;
 use crate::scratch::Scratch;
@@ -27,7 +28,7 @@ pub(crate) enum Parsed {
 
 /// What the bytes after the last whole request begin with (RFC 9112, sections 2 to 5). It reads
 /// no byte after the first `HEAD_LIMIT`; the spans of a head are places in `bytes`.
-#[tactic(auto, using(crate::proofs::NextLaws::next_tells, crate::proofs::GrowthLemmas::next_stays))]
+#[tactic(auto, using(crate::specs::NextLaws::next_tells, crate::specs::GrowthLaws::next_stays))]
 pub fn next(bytes: &[u8], scratch: &mut Scratch) -> Next
     ensures is { shown bytes.now result ≡ next_of bytes.now }
     ensures within { LiesIn bytes.now result }
@@ -36,6 +37,10 @@ pub fn next(bytes: &[u8], scratch: &mut Scratch) -> Next
     // A head or a refusal stays, whatever bytes follow.
     ensures stays { StaysSettled bytes.now }
 {
+    // After the last answer there is mostly nothing.
+    if bytes.is_empty() {
+        return Next::More;
+    }
     let window = window(bytes);
     match read_head(window, &mut scratch.fields) {
         Parsed::Whole(verdict) => verdict,
@@ -76,7 +81,7 @@ fn read_head(window: &[u8], fields: &mut [HeaderSpan]) -> Parsed
     ensures { ParserAnswered window.now result }
 {
     match parse_request(window, fields) {
-        Ok(Status::Complete(head)) => Parsed::Whole(checked(window, fields, head)),
+        Ok(Status::Complete(head)) => Parsed::Whole(check_head(window, fields, head)),
         Ok(Status::Partial) => Parsed::Cut,
         Err(_) => Parsed::Wrong,
     }

@@ -1,4 +1,4 @@
-// The Host lines of a head: under HTTP/1.1 exactly one has to be there (RFC 9112, section 3.2).
+//! The Host lines of a head: under HTTP/1.1 exactly one has to be there (RFC 9112, section 3.2).
 ghost use Rattle.std.specs.Prelude.{◌≡◌, ℕ, List};
 ghost use Rattle.warp_request.specs.Fields.{is_host_fault};
 ghost use Rattle.warp_request.specs.NamedLines.{host_lines, host_with};

@@ -1,5 +1,5 @@
-// The Content-Length lines of a head: one number, or several times the same (RFC 9112, section 6.3). Numbers are
-// told apart by their digits after leading zeros, so that a number of any length is judged.
+//! The Content-Length lines of a head: one number, or several times the same (RFC 9112, section 6.3). Numbers
+//! are told apart by their digits after leading zeros, so that a number of any length is judged.
 ghost use Rattle.std.specs.Prelude.{◌≡◌, ◌-◌, ◌^◌, min};
 ghost use Rattle.std.specs.List.{list_all};
 ghost use Rattle.warp_request.specs.Content.{decimal_of, is_digit, is_numeral as is_numeral_text};

@@ -1,4 +1,4 @@
-// The limits that a request is held to, each said once.
+//! The limits that a request is held to, each said once.
 
 /// The most bytes that a head may have, with the empty lines before it.
 pub const HEAD_LIMIT: usize = 8_192;

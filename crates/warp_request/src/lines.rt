@@ -1,4 +1,4 @@
-// The empty lines before a head, and whether a line's end is there after them.
+//! The empty lines before a head, and whether a line's end is there after them.
 ghost use Rattle.std.specs.Prelude.{◌≡◌, ◌↔◌, ◌≤◌, ◌==◌, [], IsTrue, length, drop};
 ghost use Rattle.warp_request.specs.Lines.{skip_empty, has_line, line_end_len as line_end_length};
 

@@ -1,5 +1,5 @@
-// The field names and words that a head is read by, in small letters. They are compared without
-// regard to the case of ASCII letters (RFC 9110, sections 5.1 and 7.6.1).
+//! The field names and words that a head is read by, in small letters. They are compared without
+//! regard to the case of ASCII letters (RFC 9110, sections 5.1 and 7.6.1).
 ghost use Rattle.std.specs.Prelude.{◌≡◌};
 ghost use Rattle.warp_request.specs.NamedLines.{IsKnown};
 
@@ -38,7 +38,8 @@ pub(crate) enum KnownName {
     Other,
 }
 
-/// Which of them a name is. No two of those that decide are as long, so most names are told apart by their length alone.
+/// Which of them a name is. No two of those that decide are as long, so most names are
+/// told apart by their length alone.
 pub(crate) fn known_name(name: &[u8]) -> KnownName
     ensures { IsKnown name.now result }
 {

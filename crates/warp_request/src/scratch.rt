@@ -1,4 +1,4 @@
-// Room for the fields of a head, taken once and used for every head.
+//! Room for the fields of a head, taken once and used for every head.
 ghost use Rattle.std.specs.Prelude.{◌≡◌, vec_len};
 ghost use Rattle.warp_request.specs.declared.limits.TheConstants.{FIELD_ROOM};
 

@@ -1,4 +1,4 @@
-// The target of a request: its bytes, and its form (RFC 9112, section 3.2).
+//! The target of a request: its bytes, and its form (RFC 9112, section 3.2).
 ghost use Rattle.std.specs.Prelude.{◌≡◌};
 ghost use Rattle.std.specs.List.{list_all};
 ghost use Rattle.path_rules.specs.Target.{form_of as the_form_of, has_path as has_a_path};

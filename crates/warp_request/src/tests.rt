@@ -1,11 +1,14 @@
-// The cases that a reader of the rules would try, each with the verdict that the rules give.
+//! The cases that a reader of the rules would try, each with the verdict that the rules give.
+mod bodies;
+mod framing;
+
 use crate::limits::{FIELD_LIMIT, HEAD_LIMIT};
 use crate::scratch::Scratch;
 use crate::verdict::{Framing, HeadInfo, Next, Span};
 use crate::{is_blank, next};
 use std::alloc::{AllocError, Global};
 use std::process::Abort;
-use std::test::*;
+use std::test::Fail;
 use warp_response::status::{BAD_REQUEST, HEADER_FIELDS_TOO_LARGE, NOT_IMPLEMENTED, URI_TOO_LONG};
 
 /// A head: the places of its method and its target, its minor version, its length, and whether the

@@ -1,4 +1,4 @@
-// Values of fields: words without regard to case, lists cut at commas (RFC 9110, section 5.6).
+//! Values of fields: words without regard to case, lists cut at commas (RFC 9110, section 5.6).
 ghost use Rattle.std.specs.Prelude.{◌≡◌, reverse};
 ghost use Rattle.std.specs.List.{list_all};
 ghost use Rattle.std.specs.Str.{str_eq_ignore_ascii_case};

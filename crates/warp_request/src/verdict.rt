@@ -1,4 +1,4 @@
-// What `next` answers: where the parts of a head lie, and what its fields decide.
+//! What `next` answers: where the parts of a head lie, and what its fields decide.
 pub use httparse::spans::Span;
 
 /// How the content of a request is delimited (RFC 9112, section 6).

@@ -1,13 +1,16 @@
 -- To be believed: the bytes of a head (RFC 9112, sections 2 to 4).
-use Rattle.std.specs.Prelude.{ℕ, List, [], ◌++◌, Bool, Option, Some, None, codes, decimal, nat_lt, if◌then◌else◌}
+use Rattle.std.specs.Prelude.{ℕ, List, [], ◌++◌, Bool, Option, Some, None, codes, decimal, nat_lt}
+use Rattle.std.specs.Prelude.{if◌then◌else◌}
 use Rattle.warp_response.specs.declared.response.Kind.{Kind}
-use Rattle.warp_response.specs.declared.response.Kind.TheVariants.{Html, Plain, Css, JavaScript, Json, Xml, Svg, Png, Jpeg, Gif, OctetStream}
+use Rattle.warp_response.specs.declared.response.Kind.TheVariants.{Html, Plain, Css, JavaScript, Json, Xml}
+use Rattle.warp_response.specs.declared.response.Kind.TheVariants.{Svg, Png, Jpeg, Gif, OctetStream}
 use Rattle.warp_response.specs.declared.response.LastWord.{LastWord}
 use Rattle.warp_response.specs.declared.response.LastWord.TheVariants.{Nothing, Close, KeepAlive}
 use Rattle.warp_response.specs.Moment.{date_of, first_undated}
 use Rattle.warp_response.specs.Statuses.{phrase_of}
 
--- what the head of an answer says: its status, the length of its content, the kind of its file, the bytes of its Location, and whether it lists the methods that are served
+-- what the head of an answer says: its status, the length of its content, the kind of its file, the bytes of
+-- its Location, and whether it lists the methods that are served
 pub record Head : Type 0 where
   pub status : ℕ
   pub length : ℕ

@@ -1,5 +1,6 @@
 -- To be believed: what an answer is, whole, and which responses stand for it.
-use Rattle.std.specs.Prelude.{◌≡◌, ℕ, ◌≤◌, ◌↔◌, List, [], ◌++◌, length, Bool, true, false, IsTrue, IsSome, Option, Some, None, option_map, codes, slice_range}
+use Rattle.std.specs.Prelude.{◌≡◌, ℕ, ◌≤◌, ◌↔◌, List, [], ◌++◌, length, Bool, true, false, IsTrue, IsSome}
+use Rattle.std.specs.Prelude.{Option, Some, None, option_map, codes, slice_range}
 use Rattle.std.specs.Option.{ForSome}
 use Rattle.warp_response.specs.declared.response.Kind.{Kind}
 use Rattle.warp_response.specs.declared.response.Content.{Content}
@@ -59,7 +60,8 @@ query_part target (Some span) = codes "?" ++ slice_range target span.0 span.1
 
 -- the bytes of Location that a place of a target stands for
 abbrev pub location : List ℕ → Place → List ℕ
-location target place = slice_range target place.raw.0 place.raw.1 ++ codes "/" ++ query_part target place.query
+location target place =
+    slice_range target place.raw.0 place.raw.1 ++ codes "/" ++ query_part target place.query
 
 -- what the head of a response says, whose place lies in the target
 abbrev pub head_shown : List ℕ → Response → Head
@@ -77,7 +79,8 @@ IsContentFor kept.None c = c ≡ none
 IsContentFor kept.Empty c = c ≡ empty
 IsContentFor (kept.File size send) c = (bytes : List ℕ) × (c ≡ file bytes send) × (length bytes ≡ size)
 
--- a response stands for a reply: its content's size for the bytes, and the spans of the target for the bytes of Location
+-- a response stands for a reply: its content's size for the bytes, and the spans of the
+-- target for the bytes of Location
 pub record IsResponseFor (target : List ℕ) (response : Response) (reply : Reply) : Type 0 where
   pub status : response.status ≡ reply.status
   pub content : IsContentFor response.content reply.content
@@ -101,7 +104,8 @@ pub record IsPlaceOf (target : List ℕ) (place : Place) : Type 0 where
   pub raw : IsSpanOf target place.raw
   pub query : ForSome place.query (λ span. IsSpanOf target span)
 
--- a response has a head: a status with a phrase, a kind exactly with a file, a place exactly at 301, in a target of at most 8,192 bytes
+-- a response has a head: a status with a phrase, a kind exactly with a file, a place exactly at 301, in
+-- a target of at most 8,192 bytes
 pub record IsSendable (target : List ℕ) (response : Response) : Type 0 where
   pub phrase : HasPhrase response.status
   pub kind : IsSome response.kind ↔ IsTrue (is_file response.content)

@@ -1,4 +1,5 @@
--- To be believed: the statuses of answers, each with its reason phrase (RFC 9110, section 15; RFC 6585, section 5).
+-- To be believed: the statuses of answers, each with its reason phrase (RFC 9110,
+-- section 15; RFC 6585, section 5).
 use Rattle.std.specs.Prelude.{ℕ, ◌==◌, List, [], ◌∷◌, map, IsTrue, codes, if◌then◌else◌}
 use Rattle.std.specs.List.{list_any}
 

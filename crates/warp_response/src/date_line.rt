@@ -1,4 +1,4 @@
-// The Date line, made once for all answers of a second (RFC 9110, section 6.6.1).
+//! The Date line, made once for all answers of a second (RFC 9110, section 6.6.1).
 ghost use Rattle.std.specs.Prelude.{◌≡◌, ◌≤◌, ◌<◌, ◌++◌, codes, length, take};
 ghost use Rattle.warp_response.specs.Head.{date_line, field_line};
 ghost use Rattle.warp_response.specs.Moment.{first_undated};

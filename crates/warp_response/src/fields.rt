@@ -1,5 +1,5 @@
-// The fields of a head, in the order in which they are written, each with a bound on its length. A line that never
-// changes stands here in one piece.
+//! The fields of a head, in the order in which they are written, each with a bound on its length. A line that
+//! never changes stands here in one piece.
 ghost use Rattle.std.specs.Prelude.{◌≡◌, ◌≤◌, ◌<◌, ◌+◌, ◌++◌, Some, length, decimal};
 ghost use Rattle.warp_response.specs.Head.{kind_line, length_line, allow_line, last_line, server_line};
 

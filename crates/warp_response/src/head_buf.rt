@@ -1,4 +1,4 @@
-// The buffer in which heads are written: made once for a connection, with room for every head.
+//! The buffer in which heads are written: made once for a connection, with room for every head.
 ghost use Rattle.std.specs.Prelude.{◌≡◌, ◌≤◌, ◌+◌, ◌++◌, ℕ, List, [], IfOk, length, take, vec_len};
 ghost use Rattle.warp_response.specs.Head.{date_line};
 
@@ -6,8 +6,8 @@ use crate::date_line::DateLine;
 use std::alloc::{AllocError, Global};
 use std::marker::Model;
 
-/// Bytes that any head fits in: Location repeats at most two spans of a target of 8,192 bytes, and 512 bytes are more than
-/// everything else needs.
+/// Bytes that any head fits in: Location repeats at most two spans of a target of 8,192 bytes, and 512 bytes
+/// are more than everything else needs.
 pub(crate) const HEAD_BYTES: usize = 16_896;
 
 /// A head, in a buffer with room for every one, and the Date line of the last.
@@ -66,7 +66,8 @@ impl HeadBuf {
         self.len += piece.len();
     }
 
-    /// Writes Date, which a moment from the year 10000 on hasn't. The line is kept for the next answer of the same second.
+    /// Writes Date, which a moment from the year 10000 on hasn't. The line is kept for the
+    /// next answer of the same second.
     pub(crate) fn add_date(&mut self, moment: u64)
         requires { length self.old + 37 ≤ HEAD_BYTES }
         ensures is { self.new ≡ self.old ++ date_line moment }

@@ -1,4 +1,4 @@
-// The heads of answers.
+//! The heads of answers.
 ghost use Rattle.std.specs.Prelude.{◌≡◌, ◌≤◌, ◌<◌, ◌+◌, ◌*◌, ◌++◌, ℕ, None, length};
 ghost use Rattle.warp_response.specs.Head.{status_line, head_text, longest_head, longest_head_without_place};
 ghost use Rattle.warp_response.specs.Reply.{Reply, IsSendable, IsResponseFor, content_length, head_shown, head_of};
@@ -41,8 +41,9 @@ fn told_length(content: Content) -> u64
     }
 }
 
-/// Writes the head of an answer into `out`, in place of what was there. `moment` is in seconds since 1970, and `target`
-/// is the target of the request, in which the spans of a place lie. The caller owes that the response can be sent.
+/// Writes the head of an answer into `out`, in place of what was there. `moment` is in seconds since
+/// 1970, and `target` is the target of the request, in which the spans of a place lie. The caller owes
+/// that the response can be sent.
 #[tactic(auto, unfolding(crate::specs::Head::head_text))]
 pub fn head_bytes(
     response: &Response,
@@ -56,7 +57,8 @@ pub fn head_bytes(
     ensures long { length out.new ≤ longest_head }
     ensures within { length out.new ≤ 512 + 2 * length target.now }
     ensures short { response.now.place ≡ None → length out.new ≤ longest_head_without_place }
-    ensures reply { (reply : Reply) → IsResponseFor target.now response.now reply → out.new ≡ head_text (head_of reply) moment last }
+    ensures reply { (reply : Reply) → IsResponseFor target.now response.now reply
+        → out.new ≡ head_text (head_of reply) moment last }
 {
     out.clear();
     out.add(status_text(response.status));

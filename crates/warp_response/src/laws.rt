@@ -1,4 +1,5 @@
-// What holds of the definitions, whatever is written. Each law is the contract of a function that does nothing.
+//! What holds of the definitions, whatever is written. Each law is the contract of a
+//! function that does nothing.
 ghost use Rattle.std.specs.Prelude.{◌≡◌, ◌<◌, [], ◌∷◌, ℕ};
 ghost use Rattle.httpdate.specs.Valid.{IsValid, parts_secs};
 ghost use Rattle.warp_response.specs.Moment.{civil_of, first_undated};

@@ -1,8 +1,10 @@
-// The bytes of every answer of the server: its status line, its fields and the empty line after them (RFC 9112,
-// sections 2 to 4; RFC 9110). It knows no connection, no request and no file: it is told what an answer shows and
-// writes it into a buffer that has room for every head, and so it never runs out of memory after the buffer's making.
-//
-// Its promise: `head_bytes` writes exactly the head that `head_text` defines, for every response that can be sent.
+//! The bytes of every answer of the server: its status line, its fields and the empty line after them (RFC
+//! 9112, sections 2 to 4; RFC 9110). It knows no connection, no request and no file: it is told what an
+//! answer shows and writes it into a buffer that has room for every head, and so it never runs out of
+//! memory after the buffer's making.
+//!
+//! Its promise: `head_bytes` writes exactly the head that `head_text` defines, for every
+//! response that can be sent.
 #![tactic(auto)]
 
 // What an answer shows.
@@ -21,11 +23,12 @@ mod refusals;
 
 // What holds of the definitions.
 mod laws;
-#[cfg(test)]
-mod tests;
 
 pub use head_buf::HeadBuf;
 pub use heads::head_bytes;
 pub use laws::{a_date_is_of_its_moment, each_status_has_its_number};
 pub use refusals::{interim, refusal};
 pub use response::{Content, Kind, LastWord, Place, Response};
+
+#[cfg(test)]
+mod tests;

@@ -1,4 +1,4 @@
-// Location, which is made from spans of the target (RFC 9110, section 10.2.2).
+//! Location, which is made from spans of the target (RFC 9110, section 10.2.2).
 ghost use Rattle.std.specs.Prelude.{◌≡◌, ◌≤◌, ◌+◌, ◌++◌, None, length, slice_range, option_map};
 ghost use Rattle.std.specs.Option.{ForSome};
 ghost use Rattle.warp_response.specs.Head.{place_line};

@@ -1,4 +1,4 @@
-// The answers that no application makes: refusals and the interim answer.
+//! The answers that no application makes: refusals and the interim answer.
 ghost use Rattle.std.specs.Prelude.{◌≡◌, ◌≤◌, ℕ, List, length, None, Some, true, false};
 ghost use Rattle.warp_response.specs.Reply.{Reply, refusal_reply, IsResponseFor, IsSendable};
 ghost use Rattle.warp_response.specs.Statuses.{HasPhrase};
@@ -18,9 +18,11 @@ pub fn interim() -> &'static [u8]
 
 /// The response that refuses a request with this status. Its answer closes the connection.
 pub fn refusal(status: u16) -> Response
-    ensures is { result ≡ record { status = status; content = Content.Empty; kind = None; place = None; allow = false } }
+    ensures is { result
+        ≡ record { status = status; content = Content.Empty; kind = None; place = None; allow = false } }
     ensures reply { (target : List ℕ) → IsResponseFor target result (refusal_reply status) }
-    ensures sendable { (target : List ℕ) → HasPhrase status → 400 ≤ status → length target ≤ 8192 → IsSendable target result }
+    ensures sendable { (target : List ℕ) → HasPhrase status → 400 ≤ status → length target ≤ 8192
+        → IsSendable target result }
 {
     Response {
         status,

@@ -1,4 +1,4 @@
-// What an answer shows, without the bytes of its file and without those of its Location.
+//! What an answer shows, without the bytes of its file and without those of its Location.
 
 /// The media type of a file (RFC 9110, section 8.3.1).
 #[derive(Clone, Copy, Debug, PartialEq, Eq)]
@@ -34,12 +34,13 @@ pub enum Content {
     None,
     /// The content has no bytes.
     Empty,
-    /// A file of `size` bytes. The head tells the size, and the bytes follow where `send` is true: for GET, not for HEAD.
+    /// A file of `size` bytes. The head tells the size, and the bytes follow where `send`
+    /// is true: for GET, not for HEAD.
     File { size: u64, send: bool },
 }
 
-/// The spans of the target from which Location is made. A span holds the place of its first byte, counted from 0, and
-/// the place after its last byte.
+/// The spans of the target from which Location is made. A span holds the place of its first byte, counted
+/// from 0, and the place after its last byte.
 #[derive(Clone, Copy, Debug, PartialEq, Eq)]
 pub struct Place {
     /// The raw path, after which Location has a `/`.

@@ -1,4 +1,4 @@
-// The statuses that this server sends (RFC 9110, section 15; RFC 6585, section 5), each said once.
+//! The statuses that this server sends (RFC 9110, section 15; RFC 6585, section 5), each said once.
 
 /// The request was answered.
 pub const OK: u16 = 200;

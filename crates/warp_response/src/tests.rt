@@ -1,4 +1,4 @@
-// Worked heads and answers, each with its text and the number of its bytes.
+//! Worked heads and answers, each with its text and the number of its bytes.
 ghost use Rattle.std.specs.Prelude.{◌≡◌, ◌≤◌, IsTrue, length};
 ghost use Rattle.std.specs.Option.{ForSome};
 ghost use Rattle.warp_response.specs.Reply.{IsSpanOf, IsPlaceOf, IsSendable, is_file};

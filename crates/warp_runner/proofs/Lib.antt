@@ -9,5 +9,4 @@ mod Turning
 mod AcceptLemmas
 mod Running
 mod TimingOut
-pub mod Stopping
 mod SweptOnce

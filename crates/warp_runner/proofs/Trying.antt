@@ -17,14 +17,16 @@ use Rattle.event_mgr.specs.Manager.{MgrView, IsWellFormed}
 use Rattle.dispatcher.specs.Runs.{CallsOfRuns}
 use Rattle.warp_runner.specs.Acts.{Acts, Did, nothing, called, then, told_of}
 use Rattle.warp_runner.specs.Calls.{DidAt}
-use Rattle.warp_runner.specs.Deeds.{AreNoOpenings, AreRefusals, IsNoOpening, IsOpenedAtLast, IsOpenedNever, IsTriedUntilSpent, IsTriedUntilTaken, registering, tried}
+use Rattle.warp_runner.specs.Deeds.{AreNoOpenings, AreRefusals, IsNoOpening, IsOpenedAtLast, IsOpenedNever}
+use Rattle.warp_runner.specs.Deeds.{IsTriedUntilSpent, IsTriedUntilTaken, registering, tried}
 use Rattle.warp_runner.proofs.Doing.{did_then}
 
 -- acts by their calls alone
 abbrev made_of : List Entry → Acts
 made_of calls = record { calls = calls; all_out = 0; tallied = []; timed = []; handed = [] }
 
-refused_more : (outs : List RegisterOutcome) (out : RegisterOutcome) → ((out ≡ Registers.Shut) ⊎ (out ≡ Registers.Crowded)) → AreRefusals outs → AreRefusals (outs ++ out ∷ [])
+refused_more : (outs : List RegisterOutcome) (out : RegisterOutcome)
+    → ((out ≡ Registers.Shut) ⊎ (out ≡ Registers.Crowded)) → AreRefusals outs → AreRefusals (outs ++ out ∷ [])
 refused_more [] out is are = (is, tt)
 refused_more (x ∷ outs) out is are = (are.0, refused_more outs out is are.1)
 
@@ -51,64 +53,88 @@ module _ (u : MgrView) where
 
 module _ {T : Type 0} {tag : T → List (List ℕ)} (rules : CallsOfRuns tag) where
   module _ (o : Opening) (d : Dir) (m : Option ℕ) (name : List (List ℕ)) (u : MgrView) where
-    pub tried_more : (v w : MgrView) (out : RegisterOutcome) → ((out ≡ Registers.Shut) ⊎ (out ≡ Registers.Crowded)) → TriedSo o d m name u v → DidAt v (registering o d m name out) [] w → TriedSo o d m name u w
+    pub tried_more : (v w : MgrView) (out : RegisterOutcome)
+        → ((out ≡ Registers.Shut) ⊎ (out ≡ Registers.Crowded)) → TriedSo o d m name u v
+        → DidAt v (registering o d m name out) [] w → TriedSo o d m name u w
     tried_more v w out is t did =
         let entry : RegisterOutcome → Entry = λ x. Entries.Register o d m (Kinds.Job name) x in record {
           outs = t.outs ++ out ∷ [];
           are = refused_more t.outs out is t.are;
           did = λ a s b. subst (λ (l : List Entry). Did (told_of u a s b) (made_of l) [] (told_of w a s b))
               (sym (map-append entry t.outs (out ∷ [])))
-              (did_then rules (told_of u a s b) (told_of v a s b) (told_of w a s b) (tried o d m name t.outs) (registering o d m name out) [] [] (t.did a s b) (did a s b));
+              (did_then rules (told_of u a s b) (told_of v a s b) (told_of w a s b) (tried o d m name t.outs)
+              (registering o d m name out) [] [] (t.did a s b) (did a s b));
         }
 
-    pub tried_last : (v w : MgrView) (e : Option EventName) → TriedSo o d m name u v → ((key : Key) × DidAt v (registering o d m name (Registers.Waits key e)) (option_to_list e) w)
+    pub tried_last : (v w : MgrView) (e : Option EventName) → TriedSo o d m name u v
+        → ((key : Key) × DidAt v (registering o d m name (Registers.Waits key e)) (option_to_list e) w)
         → (acts : Acts) × DidAt u acts (option_to_list e) w × IsTriedUntilTaken o d m name acts
     tried_last v w e t did = (
       then (tried o d m name t.outs) (registering o d m name (Registers.Waits did.0 e)),
-      λ a s b. did_then rules (told_of u a s b) (told_of v a s b) (told_of w a s b) (tried o d m name t.outs) (registering o d m name (Registers.Waits did.0 e)) [] (option_to_list e) (t.did a s b) (did.1 a s b),
+      λ a s b.
+          did_then rules (told_of u a s b) (told_of v a s b) (told_of w a s b) (tried o d m name t.outs)
+          (registering o d m name (Registers.Waits did.0 e))
+          [] (option_to_list e) (t.did a s b) (did.1 a s b),
       (t.outs, t.are, (did.0, e, refl)),
     )
 
-    pub tried_spent : (v w : MgrView) → TriedSo o d m name u v → DidAt v nothing [] w ⊎ DidAt v (registering o d m name Registers.Spent) [] w
+    pub tried_spent : (v w : MgrView) → TriedSo o d m name u v
+        → DidAt v nothing [] w ⊎ DidAt v (registering o d m name Registers.Spent) [] w
         → (acts : Acts) × DidAt u acts [] w × IsTriedUntilSpent o d m name acts
     tried_spent v w t (inl did) = (
       then (tried o d m name t.outs) nothing,
-      λ a s b. did_then rules (told_of u a s b) (told_of v a s b) (told_of w a s b) (tried o d m name t.outs) nothing [] [] (t.did a s b) (did a s b),
+      λ a s b.
+          did_then rules (told_of u a s b) (told_of v a s b) (told_of w a s b)
+          (tried o d m name t.outs) nothing
+          [] [] (t.did a s b) (did a s b),
       (t.outs, t.are, (nothing, inl refl, refl)),
     )
     tried_spent v w t (inr did) = (
       then (tried o d m name t.outs) (registering o d m name Registers.Spent),
-      λ a s b. did_then rules (told_of u a s b) (told_of v a s b) (told_of w a s b) (tried o d m name t.outs) (registering o d m name Registers.Spent) [] [] (t.did a s b) (did a s b),
+      λ a s b.
+          did_then rules (told_of u a s b) (told_of v a s b) (told_of w a s b) (tried o d m name t.outs)
+          (registering o d m name Registers.Spent) [] [] (t.did a s b) (did a s b),
       (t.outs, t.are, (registering o d m name Registers.Spent, inr refl, refl)),
     )
 
   module _ (u : MgrView) where
-    pub opened_more : (v w : MgrView) (acts : Acts) → IsNoOpening acts → OpenedSo u v → DidAt v acts [] w → OpenedSo u w
+    pub opened_more : (v w : MgrView) (acts : Acts) → IsNoOpening acts → OpenedSo u v
+        → DidAt v acts [] w → OpenedSo u w
     opened_more v w acts is t did = record {
       tries = acts ∷ t.tries;
       before = then t.before acts;
       are = (t.before, t.are, is, refl);
-      did = λ a s b. did_then rules (told_of u a s b) (told_of v a s b) (told_of w a s b) t.before acts [] [] (t.did a s b) (did a s b);
+      did =
+          λ a s b. did_then rules (told_of u a s b) (told_of v a s b) (told_of w a s b) t.before acts
+          [] [] (t.did a s b) (did a s b);
     }
 
-    pub opened_last : (v w : MgrView) (o : Opening) → OpenedSo u v → DidAt v (called (Entries.Open o.fd (Opens.Opened o))) [] w × IsWellFormed o
+    pub opened_last : (v w : MgrView) (o : Opening) → OpenedSo u v
+        → DidAt v (called (Entries.Open o.fd (Opens.Opened o))) [] w × IsWellFormed o
         → (acts : Acts) × DidAt u acts [] w × IsOpenedAtLast o acts × IsWellFormed o
     opened_last v w o t did = (
       then t.before (called (Entries.Open o.fd (Opens.Opened o))),
-      λ a s b. did_then rules (told_of u a s b) (told_of v a s b) (told_of w a s b) t.before (called (Entries.Open o.fd (Opens.Opened o))) [] [] (t.did a s b) (did.0 a s b),
+      λ a s b.
+          did_then rules (told_of u a s b) (told_of v a s b) (told_of w a s b) t.before
+          (called (Entries.Open o.fd (Opens.Opened o))) [] [] (t.did a s b) (did.0 a s b),
       (t.tries, t.before, t.are, refl),
       did.1,
     )
 
-    pub opened_never : (v w : MgrView) → OpenedSo u v → DidAt v nothing [] w ⊎ ((fd : ℕ) × DidAt v (called (Entries.Open fd Opens.Spent)) [] w)
+    pub opened_never : (v w : MgrView) → OpenedSo u v
+        → DidAt v nothing [] w ⊎ ((fd : ℕ) × DidAt v (called (Entries.Open fd Opens.Spent)) [] w)
         → (acts : Acts) × DidAt u acts [] w × IsOpenedNever acts
     opened_never v w t (inl did) = (
       then t.before nothing,
-      λ a s b. did_then rules (told_of u a s b) (told_of v a s b) (told_of w a s b) t.before nothing [] [] (t.did a s b) (did a s b),
+      λ a s b.
+          did_then rules (told_of u a s b) (told_of v a s b) (told_of w a s b) t.before nothing
+          [] [] (t.did a s b) (did a s b),
       (t.tries, t.before, nothing, t.are, inl refl, refl),
     )
     opened_never v w t (inr did) = (
       then t.before (called (Entries.Open did.0 Opens.Spent)),
-      λ a s b. did_then rules (told_of u a s b) (told_of v a s b) (told_of w a s b) t.before (called (Entries.Open did.0 Opens.Spent)) [] [] (t.did a s b) (did.1 a s b),
+      λ a s b.
+          did_then rules (told_of u a s b) (told_of v a s b) (told_of w a s b) t.before
+          (called (Entries.Open did.0 Opens.Spent)) [] [] (t.did a s b) (did.1 a s b),
       (t.tries, t.before, called (Entries.Open did.0 Opens.Spent), t.are, inr (did.0, refl), refl),
     )

@@ -34,7 +34,8 @@ use Rattle.warp_passes.specs.TallyCalls.{IsTallyOf}
 use Rattle.warp_passes.specs.Own.{entries_of}
 use Rattle.warp_books.specs.Books.{FinishedTold, BookTold, IsBookOf}
 
--- what is known of what a dispatcher did so far: what its pass on the manager knows, its calls on the tally and on the timeouts in their order, and its book
+-- what is known of what a dispatcher did so far: what its pass on the manager knows, its calls on the tally
+-- and on the timeouts in their order, and its book
 pub record ServeTold : Type 0 where
   pub mgr : MgrView
   pub tallied : List TallyEntry
@@ -43,9 +44,11 @@ pub record ServeTold : Type 0 where
 
 -- the same by what each of its passes knows
 abbrev pub told_of : MgrView → View TallyEntry → TimeView → BookTold → ServeTold
-told_of mgr tally times book = record { mgr = mgr; tallied = entries_of tally; timed = calls_of times; book = book }
+told_of mgr tally times book =
+    record { mgr = mgr; tallied = entries_of tally; timed = calls_of times; book = book }
 
--- some of what it did: calls on stripes, how often it was told that all descriptors are open, calls on the tally and on the timeouts, each kind in its order, and what it handed to its book
+-- some of what it did: calls on stripes, how often it was told that all descriptors are open, calls on the
+-- tally and on the timeouts, each kind in its order, and what it handed to its book
 pub record Acts : Type 0 where
   pub calls : List Entry
   pub all_out : ℕ
@@ -73,9 +76,15 @@ counted e = record { calls = []; all_out = 0; tallied = e ∷ []; timed = []; ha
 abbrev pub watched : List TimeCall → Acts
 watched cs = record { calls = []; all_out = 0; tallied = []; timed = cs; handed = [] }
 
--- one act behind another
+-- one act after another
 abbrev pub then : Acts → Acts → Acts
-then a b = record { calls = a.calls ++ b.calls; all_out = a.all_out + b.all_out; tallied = a.tallied ++ b.tallied; timed = a.timed ++ b.timed; handed = a.handed ++ b.handed }
+then a b = record {
+  calls = a.calls ++ b.calls;
+  all_out = a.all_out + b.all_out;
+  tallied = a.tallied ++ b.tallied;
+  timed = a.timed ++ b.timed;
+  handed = a.handed ++ b.handed;
+}
 
 -- one for a draw that was answered that all descriptors are open
 abbrev pub is_all_out : NumbersCall → NumbersReply → ℕ
@@ -95,7 +104,10 @@ fired_weight φ _ = 0
 abbrev pub IsBookThen : List FinishedTold → BookTold → BookTold → Type 0
 IsBookThen handed b c = (before : List FinishedTold) → IsBookOf before b → IsBookOf (before ++ handed) c
 
--- Exactly this was done: the pass's own entries weigh more by those of the calls, whatever an entry weighs, none of them dispatched anything, and they named exactly these events; it was told so often more that all descriptors are open; the calls on the tally and on the timeouts, and what the book was handed, came to the end of what there was
+-- Exactly this was done: the pass's own entries weigh more by those of the calls, whatever an entry
+-- weighs, none of them dispatched anything, and they named exactly these events; it was told so often more
+-- that all descriptors are open; the calls on the tally and on the timeouts, and what the book was handed,
+-- came to the end of what there was
 pub record Did (u : ServeTold) (acts : Acts) (events : List EventName) (w : ServeTold) : Type 0 where
   pub made : HasMadeCalls u.mgr events w.mgr
   pub grew : (f : Entry → ℕ) → own_weight f w.mgr ≡ own_weight f u.mgr + weigh f acts.calls
@@ -106,14 +118,18 @@ pub record Did (u : ServeTold) (acts : Acts) (events : List EventName) (w : Serv
   pub book : IsBookThen acts.handed u.book w.book
 
 module _ {P C R L : Type 0} where
-  -- the passes are of the timeouts, of the cell of the cache and of that of the tally, and what they have seen is right
-  pub record AreOfCells (times : Timeouts) (timed : TimePass) (cache : TurnCell P C R (CacheDeed L)) (cached : Pass P (CacheDeed L))
-      (tally : TurnCell Tally TallyCall TallyReply TallyEntry) (tallied : Pass Tally TallyEntry) : Type 0 where
+  -- the passes are of the timeouts, of the cell of the cache and of that of the tally,
+  -- and what they have seen is right
+  pub record AreOfCells (times : Timeouts) (timed : TimePass) (cache : TurnCell P C R (CacheDeed L))
+      (cached : Pass P (CacheDeed L))
+      (tally : TurnCell Tally TallyCall TallyReply TallyEntry)
+      (tallied : Pass Tally TallyEntry) : Type 0 where
     pub of_times : IsOf times timed
     pub of_cache : IsCacheOf cache cached
     pub of_tally : IsTallyOf tally tallied
 
--- the passes of the two cells have seen what they had seen and maybe more, and did what they had done and maybe more
+-- the passes of the two cells have seen what they had seen and maybe more, and did what
+-- they had done and maybe more
 pub record HaveGrown {L : Type 0} (c d : View (CacheDeed L)) (t u : View TallyEntry) : Type 0 where
   pub cached : HasGrown c d
   pub tallied : HasGrown t u

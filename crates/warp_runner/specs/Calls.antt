@@ -26,14 +26,16 @@ use Rattle.warp_runner.specs.Deeds.{IsOpenedAtLast, IsOpenedNever, IsTriedUntilS
 
 -- exactly this was done with the manager's pass, whatever else the dispatcher did before
 abbrev pub DidAt : MgrView → Acts → List EventName → MgrView → Type 0
-DidAt v acts events w = (t : View TallyEntry) (s : TimeView) (b : BookTold) → Did (told_of v t s b) acts events (told_of w t s b)
+DidAt v acts events w =
+    (t : View TallyEntry) (s : TimeView) (b : BookTold) → Did (told_of v t s b) acts events (told_of w t s b)
 
 -- a descriptor was opened, or not
 abbrev pub HasOpenedIt : MgrView → OpenOut → MgrView → Type 0
 HasOpenedIt v (Open.Opened o) w = DidAt v (called (Entries.Open o.fd (Opens.Opened o))) [] w × IsWellFormed o
 HasOpenedIt v Open.Full w = DidAt v found_all_out [] w
 HasOpenedIt v (Open.Taken o) w = DidAt v (called (Entries.Open o.fd (Opens.Taken o))) [] w
-HasOpenedIt v Open.Spent w = DidAt v nothing [] w ⊎ ((fd : ℕ) × DidAt v (called (Entries.Open fd Opens.Spent)) [] w)
+HasOpenedIt v Open.Spent w =
+    DidAt v nothing [] w ⊎ ((fd : ℕ) × DidAt v (called (Entries.Open fd Opens.Spent)) [] w)
 
 -- a close was made, or none since numbers are used up
 abbrev pub HasClosedIt : {U E : Type 0} → Opening → MgrView → Result U E → MgrView → Type 0
@@ -42,11 +44,17 @@ HasClosedIt o v (Err e) w = DidAt v nothing [] w
 
 module _ {T : Type 0} where
   -- a job of this tag was registered: it waits, or it came back, or numbers are used up
-  abbrev pub HasRegisteredIt : List (List ℕ) → Opening → Dir → Option ℕ → T → MgrView → Registered T → MgrView → Type 0
-  HasRegisteredIt tag o d m job v (Waits e) w = (key : Key) × DidAt v (called (Entries.Register o d m (Kinds.Job tag) (Registers.Waits key e))) (option_to_list e) w
-  HasRegisteredIt tag o d m job v (Crowded back) w = (back ≡ job) × DidAt v (called (Entries.Register o d m (Kinds.Job tag) Registers.Crowded)) [] w
-  HasRegisteredIt tag o d m job v (Shut back) w = (back ≡ job) × DidAt v (called (Entries.Register o d m (Kinds.Job tag) Registers.Shut)) [] w
-  HasRegisteredIt tag o d m job v Spent w = DidAt v nothing [] w ⊎ DidAt v (called (Entries.Register o d m (Kinds.Job tag) Registers.Spent)) [] w
+  abbrev pub HasRegisteredIt : List (List ℕ) → Opening → Dir → Option ℕ → T → MgrView
+      → Registered T → MgrView → Type 0
+  HasRegisteredIt tag o d m job v (Waits e) w =
+      (key : Key) × DidAt v (called (Entries.Register o d m (Kinds.Job tag) (Registers.Waits key e)))
+      (option_to_list e) w
+  HasRegisteredIt tag o d m job v (Crowded back) w =
+      (back ≡ job) × DidAt v (called (Entries.Register o d m (Kinds.Job tag) Registers.Crowded)) [] w
+  HasRegisteredIt tag o d m job v (Shut back) w =
+      (back ≡ job) × DidAt v (called (Entries.Register o d m (Kinds.Job tag) Registers.Shut)) [] w
+  HasRegisteredIt tag o d m job v Spent w =
+      DidAt v nothing [] w ⊎ DidAt v (called (Entries.Register o d m (Kinds.Job tag) Registers.Spent)) [] w
 
   -- a load that is a job
   abbrev pub IsJob : Payload T → Type 0
@@ -58,8 +66,10 @@ module _ {T : Type 0} where
   HoldsJob load job = load ≡ Payloads.Job job
 
 -- a job of this tag was registered until it waited, or until numbers were used up
-abbrev pub HasTriedUntil : {E : Type 0} → List (List ℕ) → Opening → Dir → Option ℕ → MgrView → Result (Option EventName) E → MgrView → Type 0
-HasTriedUntil tag o d m v (Ok e) w = (acts : Acts) × DidAt v acts (option_to_list e) w × IsTriedUntilTaken o d m tag acts
+abbrev pub HasTriedUntil : {E : Type 0} → List (List ℕ) → Opening → Dir → Option ℕ → MgrView
+    → Result (Option EventName) E → MgrView → Type 0
+HasTriedUntil tag o d m v (Ok e) w =
+    (acts : Acts) × DidAt v acts (option_to_list e) w × IsTriedUntilTaken o d m tag acts
 HasTriedUntil tag o d m v (Err x) w = (acts : Acts) × DidAt v acts [] w × IsTriedUntilSpent o d m tag acts
 
 -- a descriptor was opened, after refusals that nothing hinders, or numbers were used up

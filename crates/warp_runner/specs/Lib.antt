@@ -6,3 +6,4 @@ pub mod Journal
 pub mod JournalLaws
 pub mod Runs
 pub mod Sweeps
+pub mod StoppingLaws

@@ -14,4 +14,6 @@ is_sweep (Sweep given) = 1
 
 -- one sweep was made after these calls on the timeouts, and then others that are none
 abbrev pub HasSweptOnce : List TimeCall → List TimeCall → Type 0
-HasSweptOnce old new = (given : List Opening) × (rest : List TimeCall) × (new ≡ old ++ Sweep given ∷ rest) × (weigh is_sweep rest ≡ 0)
+HasSweptOnce old new =
+    (given : List Opening) × (rest : List TimeCall) × (new ≡ old ++ Sweep given ∷ rest)
+    × (weigh is_sweep rest ≡ 0)

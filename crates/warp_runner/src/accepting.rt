@@ -35,8 +35,8 @@ impl<P: Poller, F: Files, C: Clock, B: Book<Finished<P::Link, F>>, G: Gate> Serv
     B,
     G,
 > {
-    /// Runs the listener: accepts one link, and registers the listener again. After a link it names no mark, so
-    /// that it runs again at once; where no link was there it names the mark that this run was given.
+    /// Runs the listener: accepts one link, and registers the listener again. After a link it names no mark,
+    /// so that it runs again at once; where no link was there it names the mark that this run was given.
     pub(crate) fn listen<R: Wait>(
         &mut self,
         rt: &R,
@@ -46,12 +46,22 @@ impl<P: Poller, F: Files, C: Clock, B: Book<Finished<P::Link, F>>, G: Gate> Serv
         marks: Marks,
     ) -> Ran
         requires mgr { IsOfMgr mgr.now pass.old }
-        requires own { AreOfCells (arc_value self.old.shared).times self.old.timed (arc_value self.old.shared).cache self.old.cached (arc_value self.old.shared).tally self.old.tallied }
+        requires own { AreOfCells (arc_value self.old.shared).times self.old.timed
+            (arc_value self.old.shared).cache self.old.cached
+            (arc_value self.old.shared).tally self.old.tallied }
         ensures mgr { IsOfMgr mgr.now pass.new }
-        ensures own { AreOfCells (arc_value self.new.shared).times self.new.timed (arc_value self.new.shared).cache self.new.cached (arc_value self.new.shared).tally self.new.tallied }
-        ensures did { (acts : Acts) × Did (told_of (mgr_view pass.old) (view_of self.old.tallied) (seen_of self.old.timed) (B.told self.old.book)) acts (named result) (told_of (mgr_view pass.new) (view_of self.new.tallied) (seen_of self.new.timed) (B.told self.new.book)) × IsListenerRun self.old.limit listening.value marks acts result.stopped }
+        ensures own { AreOfCells (arc_value self.new.shared).times self.new.timed
+            (arc_value self.new.shared).cache self.new.cached
+            (arc_value self.new.shared).tally self.new.tallied }
+        ensures did { (acts : Acts)
+            × Did (told_of (mgr_view pass.old) (view_of self.old.tallied) (seen_of self.old.timed)
+            (B.told self.old.book)) acts (named result) (told_of (mgr_view pass.new)
+            (view_of self.new.tallied) (seen_of self.new.timed) (B.told self.new.book))
+            × IsListenerRun self.old.limit listening.value marks acts result.stopped }
         ensures same { (self.new.shared ≡ self.old.shared) × (self.new.limit ≡ self.old.limit) }
-        ensures stays { HaveGrown (view_of self.old.cached) (view_of self.new.cached) (view_of self.old.tallied) (view_of self.new.tallied) × LeavesPolls P.meaning self.old.poller self.new.poller }
+        ensures stays { HaveGrown (view_of self.old.cached) (view_of self.new.cached)
+            (view_of self.old.tallied) (view_of self.new.tallied)
+            × LeavesPolls P.meaning self.old.poller self.new.poller }
     {
         // A law of the calls, for the proof: it does nothing when run.
         calls_of_runs::<Job<P, F>>();
@@ -74,13 +84,23 @@ impl<P: Poller, F: Files, C: Clock, B: Book<Finished<P::Link, F>>, G: Gate> Serv
         link: P::Link,
     ) -> Ran
         requires mgr { IsOfMgr mgr.now pass.old }
-        requires own { AreOfCells (arc_value self.old.shared).times self.old.timed (arc_value self.old.shared).cache self.old.cached (arc_value self.old.shared).tally self.old.tallied }
+        requires own { AreOfCells (arc_value self.old.shared).times self.old.timed
+            (arc_value self.old.shared).cache self.old.cached
+            (arc_value self.old.shared).tally self.old.tallied }
         requires untouched { IsUntouched (P.Link.told link) }
         ensures mgr { IsOfMgr mgr.now pass.new }
-        ensures own { AreOfCells (arc_value self.new.shared).times self.new.timed (arc_value self.new.shared).cache self.new.cached (arc_value self.new.shared).tally self.new.tallied }
-        ensures did { (acts : Acts) × Did (told_of (mgr_view pass.old) (view_of self.old.tallied) (seen_of self.old.timed) (B.told self.old.book)) acts (named result) (told_of (mgr_view pass.new) (view_of self.new.tallied) (seen_of self.new.timed) (B.told self.new.book)) × IsTakingLink self.old.limit listening.value acts result.stopped }
+        ensures own { AreOfCells (arc_value self.new.shared).times self.new.timed
+            (arc_value self.new.shared).cache self.new.cached
+            (arc_value self.new.shared).tally self.new.tallied }
+        ensures did { (acts : Acts)
+            × Did (told_of (mgr_view pass.old) (view_of self.old.tallied) (seen_of self.old.timed)
+            (B.told self.old.book)) acts (named result) (told_of (mgr_view pass.new)
+            (view_of self.new.tallied) (seen_of self.new.timed) (B.told self.new.book))
+            × IsTakingLink self.old.limit listening.value acts result.stopped }
         ensures same { (self.new.shared ≡ self.old.shared) × (self.new.limit ≡ self.old.limit) }
-        ensures stays { HaveGrown (view_of self.old.cached) (view_of self.new.cached) (view_of self.old.tallied) (view_of self.new.tallied) × LeavesPolls P.meaning self.old.poller self.new.poller }
+        ensures stays { HaveGrown (view_of self.old.cached) (view_of self.new.cached)
+            (view_of self.old.tallied) (view_of self.new.tallied)
+            × LeavesPolls P.meaning self.old.poller self.new.poller }
     {
         // A law of the calls, for the proof: it does nothing when run.
         calls_of_runs::<Job<P, F>>();
@@ -107,12 +127,22 @@ impl<P: Poller, F: Files, C: Clock, B: Book<Finished<P::Link, F>>, G: Gate> Serv
         listening: Box<Listening<P::Listener>>,
     ) -> Ran
         requires mgr { IsOfMgr mgr.now pass.old }
-        requires own { AreOfCells (arc_value self.old.shared).times self.old.timed (arc_value self.old.shared).cache self.old.cached (arc_value self.old.shared).tally self.old.tallied }
+        requires own { AreOfCells (arc_value self.old.shared).times self.old.timed
+            (arc_value self.old.shared).cache self.old.cached
+            (arc_value self.old.shared).tally self.old.tallied }
         ensures mgr { IsOfMgr mgr.now pass.new }
-        ensures own { AreOfCells (arc_value self.new.shared).times self.new.timed (arc_value self.new.shared).cache self.new.cached (arc_value self.new.shared).tally self.new.tallied }
-        ensures did { (acts : Acts) × Did (told_of (mgr_view pass.old) (view_of self.old.tallied) (seen_of self.old.timed) (B.told self.old.book)) acts (named result) (told_of (mgr_view pass.new) (view_of self.new.tallied) (seen_of self.new.timed) (B.told self.new.book)) × IsGoingOn self.old.limit listening.value acts result.stopped }
+        ensures own { AreOfCells (arc_value self.new.shared).times self.new.timed
+            (arc_value self.new.shared).cache self.new.cached
+            (arc_value self.new.shared).tally self.new.tallied }
+        ensures did { (acts : Acts)
+            × Did (told_of (mgr_view pass.old) (view_of self.old.tallied) (seen_of self.old.timed)
+            (B.told self.old.book)) acts (named result) (told_of (mgr_view pass.new)
+            (view_of self.new.tallied) (seen_of self.new.timed) (B.told self.new.book))
+            × IsGoingOn self.old.limit listening.value acts result.stopped }
         ensures same { (self.new.shared ≡ self.old.shared) × (self.new.limit ≡ self.old.limit) }
-        ensures stays { HaveGrown (view_of self.old.cached) (view_of self.new.cached) (view_of self.old.tallied) (view_of self.new.tallied) × LeavesPolls P.meaning self.old.poller self.new.poller }
+        ensures stays { HaveGrown (view_of self.old.cached) (view_of self.new.cached)
+            (view_of self.old.tallied) (view_of self.new.tallied)
+            × LeavesPolls P.meaning self.old.poller self.new.poller }
         ensures one { NamesOne result }
     {
         // A law of the calls, for the proof: it does nothing when run.
@@ -133,12 +163,22 @@ impl<P: Poller, F: Files, C: Clock, B: Book<Finished<P::Link, F>>, G: Gate> Serv
         listening: Box<Listening<P::Listener>>,
     ) -> Ran
         requires mgr { IsOfMgr mgr.now pass.old }
-        requires own { AreOfCells (arc_value self.old.shared).times self.old.timed (arc_value self.old.shared).cache self.old.cached (arc_value self.old.shared).tally self.old.tallied }
+        requires own { AreOfCells (arc_value self.old.shared).times self.old.timed
+            (arc_value self.old.shared).cache self.old.cached
+            (arc_value self.old.shared).tally self.old.tallied }
         ensures mgr { IsOfMgr mgr.now pass.new }
-        ensures own { AreOfCells (arc_value self.new.shared).times self.new.timed (arc_value self.new.shared).cache self.new.cached (arc_value self.new.shared).tally self.new.tallied }
-        ensures did { (acts : Acts) × Did (told_of (mgr_view pass.old) (view_of self.old.tallied) (seen_of self.old.timed) (B.told self.old.book)) acts (named result) (told_of (mgr_view pass.new) (view_of self.new.tallied) (seen_of self.new.timed) (B.told self.new.book)) × IsFailing listening.value acts result.stopped }
+        ensures own { AreOfCells (arc_value self.new.shared).times self.new.timed
+            (arc_value self.new.shared).cache self.new.cached
+            (arc_value self.new.shared).tally self.new.tallied }
+        ensures did { (acts : Acts)
+            × Did (told_of (mgr_view pass.old) (view_of self.old.tallied) (seen_of self.old.timed)
+            (B.told self.old.book)) acts (named result) (told_of (mgr_view pass.new)
+            (view_of self.new.tallied) (seen_of self.new.timed) (B.told self.new.book))
+            × IsFailing listening.value acts result.stopped }
         ensures same { (self.new.shared ≡ self.old.shared) × (self.new.limit ≡ self.old.limit) }
-        ensures stays { HaveGrown (view_of self.old.cached) (view_of self.new.cached) (view_of self.old.tallied) (view_of self.new.tallied) × LeavesPolls P.meaning self.old.poller self.new.poller }
+        ensures stays { HaveGrown (view_of self.old.cached) (view_of self.new.cached)
+            (view_of self.old.tallied) (view_of self.new.tallied)
+            × LeavesPolls P.meaning self.old.poller self.new.poller }
         ensures one { NamesOne result }
     {
         // A law of the calls, for the proof: it does nothing when run.
@@ -160,12 +200,22 @@ impl<P: Poller, F: Files, C: Clock, B: Book<Finished<P::Link, F>>, G: Gate> Serv
         listening: Box<Listening<P::Listener>>,
     ) -> Ran
         requires mgr { IsOfMgr mgr.now pass.old }
-        requires own { AreOfCells (arc_value self.old.shared).times self.old.timed (arc_value self.old.shared).cache self.old.cached (arc_value self.old.shared).tally self.old.tallied }
+        requires own { AreOfCells (arc_value self.old.shared).times self.old.timed
+            (arc_value self.old.shared).cache self.old.cached
+            (arc_value self.old.shared).tally self.old.tallied }
         ensures mgr { IsOfMgr mgr.now pass.new }
-        ensures own { AreOfCells (arc_value self.new.shared).times self.new.timed (arc_value self.new.shared).cache self.new.cached (arc_value self.new.shared).tally self.new.tallied }
-        ensures did { (acts : Acts) × Did (told_of (mgr_view pass.old) (view_of self.old.tallied) (seen_of self.old.timed) (B.told self.old.book)) acts (named result) (told_of (mgr_view pass.new) (view_of self.new.tallied) (seen_of self.new.timed) (B.told self.new.book)) × IsLeaving listening.value acts result.stopped }
+        ensures own { AreOfCells (arc_value self.new.shared).times self.new.timed
+            (arc_value self.new.shared).cache self.new.cached
+            (arc_value self.new.shared).tally self.new.tallied }
+        ensures did { (acts : Acts)
+            × Did (told_of (mgr_view pass.old) (view_of self.old.tallied) (seen_of self.old.timed)
+            (B.told self.old.book)) acts (named result) (told_of (mgr_view pass.new)
+            (view_of self.new.tallied) (seen_of self.new.timed) (B.told self.new.book))
+            × IsLeaving listening.value acts result.stopped }
         ensures same { (self.new.shared ≡ self.old.shared) × (self.new.limit ≡ self.old.limit) }
-        ensures stays { HaveGrown (view_of self.old.cached) (view_of self.new.cached) (view_of self.old.tallied) (view_of self.new.tallied) × LeavesPolls P.meaning self.old.poller self.new.poller }
+        ensures stays { HaveGrown (view_of self.old.cached) (view_of self.new.cached)
+            (view_of self.old.tallied) (view_of self.new.tallied)
+            × LeavesPolls P.meaning self.old.poller self.new.poller }
         ensures one { NamesOne result }
     {
         // A law of the calls, for the proof: it does nothing when run.
@@ -188,12 +238,22 @@ impl<P: Poller, F: Files, C: Clock, B: Book<Finished<P::Link, F>>, G: Gate> Serv
         mark: Option<u64>,
     ) -> Ran
         requires mgr { IsOfMgr mgr.now pass.old }
-        requires own { AreOfCells (arc_value self.old.shared).times self.old.timed (arc_value self.old.shared).cache self.old.cached (arc_value self.old.shared).tally self.old.tallied }
+        requires own { AreOfCells (arc_value self.old.shared).times self.old.timed
+            (arc_value self.old.shared).cache self.old.cached
+            (arc_value self.old.shared).tally self.old.tallied }
         ensures mgr { IsOfMgr mgr.now pass.new }
-        ensures own { AreOfCells (arc_value self.new.shared).times self.new.timed (arc_value self.new.shared).cache self.new.cached (arc_value self.new.shared).tally self.new.tallied }
-        ensures did { (acts : Acts) × Did (told_of (mgr_view pass.old) (view_of self.old.tallied) (seen_of self.old.timed) (B.told self.old.book)) acts (named result) (told_of (mgr_view pass.new) (view_of self.new.tallied) (seen_of self.new.timed) (B.told self.new.book)) × IsListening listening.value mark acts result.stopped }
+        ensures own { AreOfCells (arc_value self.new.shared).times self.new.timed
+            (arc_value self.new.shared).cache self.new.cached
+            (arc_value self.new.shared).tally self.new.tallied }
+        ensures did { (acts : Acts)
+            × Did (told_of (mgr_view pass.old) (view_of self.old.tallied) (seen_of self.old.timed)
+            (B.told self.old.book)) acts (named result) (told_of (mgr_view pass.new)
+            (view_of self.new.tallied) (seen_of self.new.timed) (B.told self.new.book))
+            × IsListening listening.value mark acts result.stopped }
         ensures same { (self.new.shared ≡ self.old.shared) × (self.new.limit ≡ self.old.limit) }
-        ensures stays { HaveGrown (view_of self.old.cached) (view_of self.new.cached) (view_of self.old.tallied) (view_of self.new.tallied) × LeavesPolls P.meaning self.old.poller self.new.poller }
+        ensures stays { HaveGrown (view_of self.old.cached) (view_of self.new.cached)
+            (view_of self.old.tallied) (view_of self.new.tallied)
+            × LeavesPolls P.meaning self.old.poller self.new.poller }
         ensures one { NamesOne result }
     {
         // A law of the calls, for the proof: it does nothing when run.
@@ -206,8 +266,8 @@ impl<P: Poller, F: Files, C: Clock, B: Book<Finished<P::Link, F>>, G: Gate> Serv
         }
     }
 
-    /// Begins to serve a link: gives it an opening, counts it, and lets it in. Where no opening is to be had it is
-    /// turned away.
+    /// Begins to serve a link: gives it an opening, counts it, and lets it in. Where no opening
+    /// is to be had it is turned away.
     fn begin<R: Wait>(
         &mut self,
         rt: &R,
@@ -216,13 +276,23 @@ impl<P: Poller, F: Files, C: Clock, B: Book<Finished<P::Link, F>>, G: Gate> Serv
         link: P::Link,
     ) -> Ran
         requires mgr { IsOfMgr mgr.now pass.old }
-        requires own { AreOfCells (arc_value self.old.shared).times self.old.timed (arc_value self.old.shared).cache self.old.cached (arc_value self.old.shared).tally self.old.tallied }
+        requires own { AreOfCells (arc_value self.old.shared).times self.old.timed
+            (arc_value self.old.shared).cache self.old.cached
+            (arc_value self.old.shared).tally self.old.tallied }
         requires untouched { IsUntouched (P.Link.told link) }
         ensures mgr { IsOfMgr mgr.now pass.new }
-        ensures own { AreOfCells (arc_value self.new.shared).times self.new.timed (arc_value self.new.shared).cache self.new.cached (arc_value self.new.shared).tally self.new.tallied }
-        ensures did { (acts : Acts) × Did (told_of (mgr_view pass.old) (view_of self.old.tallied) (seen_of self.old.timed) (B.told self.old.book)) acts (named result) (told_of (mgr_view pass.new) (view_of self.new.tallied) (seen_of self.new.timed) (B.told self.new.book)) × IsBeginning acts result.stopped }
+        ensures own { AreOfCells (arc_value self.new.shared).times self.new.timed
+            (arc_value self.new.shared).cache self.new.cached
+            (arc_value self.new.shared).tally self.new.tallied }
+        ensures did { (acts : Acts)
+            × Did (told_of (mgr_view pass.old) (view_of self.old.tallied) (seen_of self.old.timed)
+            (B.told self.old.book)) acts (named result) (told_of (mgr_view pass.new)
+            (view_of self.new.tallied) (seen_of self.new.timed) (B.told self.new.book))
+            × IsBeginning acts result.stopped }
         ensures same { (self.new.shared ≡ self.old.shared) × (self.new.limit ≡ self.old.limit) }
-        ensures stays { HaveGrown (view_of self.old.cached) (view_of self.new.cached) (view_of self.old.tallied) (view_of self.new.tallied) × LeavesPolls P.meaning self.old.poller self.new.poller }
+        ensures stays { HaveGrown (view_of self.old.cached) (view_of self.new.cached)
+            (view_of self.old.tallied) (view_of self.new.tallied)
+            × LeavesPolls P.meaning self.old.poller self.new.poller }
         ensures one { NamesOne result }
     {
         // A law of the calls, for the proof: it does nothing when run.
@@ -237,11 +307,21 @@ impl<P: Poller, F: Files, C: Clock, B: Book<Finished<P::Link, F>>, G: Gate> Serv
 
     /// Counts a link that is turned away.
     fn turn_link_away<R: Wait>(&mut self, rt: &R) -> Ran
-        requires own { AreOfCells (arc_value self.old.shared).times self.old.timed (arc_value self.old.shared).cache self.old.cached (arc_value self.old.shared).tally self.old.tallied }
-        ensures own { AreOfCells (arc_value self.new.shared).times self.new.timed (arc_value self.new.shared).cache self.new.cached (arc_value self.new.shared).tally self.new.tallied }
-        ensures did { (acts : Acts) × ((v : MgrView) → Did (told_of v (view_of self.old.tallied) (seen_of self.old.timed) (B.told self.old.book)) acts [] (told_of v (view_of self.new.tallied) (seen_of self.new.timed) (B.told self.new.book))) × IsTurningAway acts result.stopped }
+        requires own { AreOfCells (arc_value self.old.shared).times self.old.timed
+            (arc_value self.old.shared).cache self.old.cached
+            (arc_value self.old.shared).tally self.old.tallied }
+        ensures own { AreOfCells (arc_value self.new.shared).times self.new.timed
+            (arc_value self.new.shared).cache self.new.cached
+            (arc_value self.new.shared).tally self.new.tallied }
+        ensures did { (acts : Acts)
+            × ((v : MgrView)
+            → Did (told_of v (view_of self.old.tallied) (seen_of self.old.timed) (B.told self.old.book)) acts
+            [] (told_of v (view_of self.new.tallied) (seen_of self.new.timed) (B.told self.new.book)))
+            × IsTurningAway acts result.stopped }
         ensures same { (self.new.shared ≡ self.old.shared) × (self.new.limit ≡ self.old.limit) }
-        ensures stays { HaveGrown (view_of self.old.cached) (view_of self.new.cached) (view_of self.old.tallied) (view_of self.new.tallied) × LeavesPolls P.meaning self.old.poller self.new.poller }
+        ensures stays { HaveGrown (view_of self.old.cached) (view_of self.new.cached)
+            (view_of self.old.tallied) (view_of self.new.tallied)
+            × LeavesPolls P.meaning self.old.poller self.new.poller }
         ensures none { named result ≡ [] }
         ensures one { NamesOne result }
     {
@@ -263,14 +343,24 @@ impl<P: Poller, F: Files, C: Clock, B: Book<Finished<P::Link, F>>, G: Gate> Serv
         link: P::Link,
     ) -> Ran
         requires mgr { IsOfMgr mgr.now pass.old }
-        requires own { AreOfCells (arc_value self.old.shared).times self.old.timed (arc_value self.old.shared).cache self.old.cached (arc_value self.old.shared).tally self.old.tallied }
+        requires own { AreOfCells (arc_value self.old.shared).times self.old.timed
+            (arc_value self.old.shared).cache self.old.cached
+            (arc_value self.old.shared).tally self.old.tallied }
         requires untouched { IsUntouched (P.Link.told link) }
         requires token { HasToken opening }
         ensures mgr { IsOfMgr mgr.now pass.new }
-        ensures own { AreOfCells (arc_value self.new.shared).times self.new.timed (arc_value self.new.shared).cache self.new.cached (arc_value self.new.shared).tally self.new.tallied }
-        ensures did { (acts : Acts) × Did (told_of (mgr_view pass.old) (view_of self.old.tallied) (seen_of self.old.timed) (B.told self.old.book)) acts (named result) (told_of (mgr_view pass.new) (view_of self.new.tallied) (seen_of self.new.timed) (B.told self.new.book)) × IsAdmitting opening acts result.stopped }
+        ensures own { AreOfCells (arc_value self.new.shared).times self.new.timed
+            (arc_value self.new.shared).cache self.new.cached
+            (arc_value self.new.shared).tally self.new.tallied }
+        ensures did { (acts : Acts)
+            × Did (told_of (mgr_view pass.old) (view_of self.old.tallied) (seen_of self.old.timed)
+            (B.told self.old.book)) acts (named result) (told_of (mgr_view pass.new)
+            (view_of self.new.tallied) (seen_of self.new.timed) (B.told self.new.book))
+            × IsAdmitting opening acts result.stopped }
         ensures same { (self.new.shared ≡ self.old.shared) × (self.new.limit ≡ self.old.limit) }
-        ensures stays { HaveGrown (view_of self.old.cached) (view_of self.new.cached) (view_of self.old.tallied) (view_of self.new.tallied) × LeavesPolls P.meaning self.old.poller self.new.poller }
+        ensures stays { HaveGrown (view_of self.old.cached) (view_of self.new.cached)
+            (view_of self.old.tallied) (view_of self.new.tallied)
+            × LeavesPolls P.meaning self.old.poller self.new.poller }
         ensures one { NamesOne result }
     {
         // A law of the calls, for the proof: it does nothing when run.
@@ -296,14 +386,24 @@ impl<P: Poller, F: Files, C: Clock, B: Book<Finished<P::Link, F>>, G: Gate> Serv
         link: P::Link,
     ) -> Ran
         requires mgr { IsOfMgr mgr.now pass.old }
-        requires own { AreOfCells (arc_value self.old.shared).times self.old.timed (arc_value self.old.shared).cache self.old.cached (arc_value self.old.shared).tally self.old.tallied }
+        requires own { AreOfCells (arc_value self.old.shared).times self.old.timed
+            (arc_value self.old.shared).cache self.old.cached
+            (arc_value self.old.shared).tally self.old.tallied }
         requires untouched { IsUntouched (P.Link.told link) }
         requires token { HasToken opening }
         ensures mgr { IsOfMgr mgr.now pass.new }
-        ensures own { AreOfCells (arc_value self.new.shared).times self.new.timed (arc_value self.new.shared).cache self.new.cached (arc_value self.new.shared).tally self.new.tallied }
-        ensures did { (acts : Acts) × Did (told_of (mgr_view pass.old) (view_of self.old.tallied) (seen_of self.old.timed) (B.told self.old.book)) acts (named result) (told_of (mgr_view pass.new) (view_of self.new.tallied) (seen_of self.new.timed) (B.told self.new.book)) × IsEntering opening acts result.stopped }
+        ensures own { AreOfCells (arc_value self.new.shared).times self.new.timed
+            (arc_value self.new.shared).cache self.new.cached
+            (arc_value self.new.shared).tally self.new.tallied }
+        ensures did { (acts : Acts)
+            × Did (told_of (mgr_view pass.old) (view_of self.old.tallied) (seen_of self.old.timed)
+            (B.told self.old.book)) acts (named result) (told_of (mgr_view pass.new)
+            (view_of self.new.tallied) (seen_of self.new.timed) (B.told self.new.book))
+            × IsEntering opening acts result.stopped }
         ensures same { (self.new.shared ≡ self.old.shared) × (self.new.limit ≡ self.old.limit) }
-        ensures stays { HaveGrown (view_of self.old.cached) (view_of self.new.cached) (view_of self.old.tallied) (view_of self.new.tallied) × LeavesPolls P.meaning self.old.poller self.new.poller }
+        ensures stays { HaveGrown (view_of self.old.cached) (view_of self.new.cached)
+            (view_of self.old.tallied) (view_of self.new.tallied)
+            × LeavesPolls P.meaning self.old.poller self.new.poller }
         ensures one { NamesOne result }
     {
         // A law of the calls, for the proof: it does nothing when run.

@@ -48,13 +48,20 @@ impl<P: Poller, F: Files, C: Clock, B: Book<Finished<P::Link, F>>, G: Gate> Serv
     /// A lease that it doesn't need any more is kept until it wants another file or the run ends: the next
     /// request is often for the same one.
     pub(crate) fn bring_on<R: Wait>(&mut self, rt: &R, session: &mut Session<P::Link, F>) -> Brought
-        requires own { AreOfCells (arc_value self.old.shared).times self.old.timed (arc_value self.old.shared).cache self.old.cached (arc_value self.old.shared).tally self.old.tallied }
-        ensures own { AreOfCells (arc_value self.new.shared).times self.new.timed (arc_value self.new.shared).cache self.new.cached (arc_value self.new.shared).tally self.new.tallied }
+        requires own { AreOfCells (arc_value self.old.shared).times self.old.timed
+            (arc_value self.old.shared).cache self.old.cached
+            (arc_value self.old.shared).tally self.old.tallied }
+        ensures own { AreOfCells (arc_value self.new.shared).times self.new.timed
+            (arc_value self.new.shared).cache self.new.cached
+            (arc_value self.new.shared).tally self.new.tallied }
         ensures brought { HasBrought result session.old session.new }
         ensures same { (self.new.shared ≡ self.old.shared) × (self.new.limit ≡ self.old.limit) }
         ensures grown { HasGrown (view_of self.old.cached) (view_of self.new.cached) }
-        ensures rest { (self.new.timed ≡ self.old.timed) × (self.new.tallied ≡ self.old.tallied) × (self.new.poller ≡ self.old.poller) × (self.new.book ≡ self.old.book) }
+        ensures rest { (self.new.timed ≡ self.old.timed) × (self.new.tallied ≡ self.old.tallied)
+            × (self.new.poller ≡ self.old.poller) × (self.new.book ≡ self.old.book) }
     {
+        // A law of connections, for the proof: it does nothing when run.
+        session.keeps_its_counts();
         let mut kept: Option<Lease<F>> = None;
         'files: loop {
             let went = session.advance(&mut self.files, &mut self.clock, &mut self.scratch);
@@ -62,6 +69,8 @@ impl<P: Poller, F: Files, C: Clock, B: Book<Finished<P::Link, F>>, G: Gate> Serv
                 Ok(kept) => kept,
                 Err(_) => return Brought::Spent,
             };
+            // The same law.
+            session.keeps_its_counts();
             match went {
                 Went::Waits(dir) => return self.leave_off(rt, kept, Brought::Waits(dir)),
                 Went::Over(end) => return self.leave_off(rt, kept, Brought::Over(end)),
@@ -75,12 +84,17 @@ impl<P: Poller, F: Files, C: Clock, B: Book<Finished<P::Link, F>>, G: Gate> Serv
 
     /// Gives a lease back, if there is one, and says how far the connection was brought.
     fn leave_off<R: Wait>(&mut self, rt: &R, lease: Option<Lease<F>>, brought: Brought) -> Brought
-        requires own { AreOfCells (arc_value self.old.shared).times self.old.timed (arc_value self.old.shared).cache self.old.cached (arc_value self.old.shared).tally self.old.tallied }
-        ensures own { AreOfCells (arc_value self.new.shared).times self.new.timed (arc_value self.new.shared).cache self.new.cached (arc_value self.new.shared).tally self.new.tallied }
+        requires own { AreOfCells (arc_value self.old.shared).times self.old.timed
+            (arc_value self.old.shared).cache self.old.cached
+            (arc_value self.old.shared).tally self.old.tallied }
+        ensures own { AreOfCells (arc_value self.new.shared).times self.new.timed
+            (arc_value self.new.shared).cache self.new.cached
+            (arc_value self.new.shared).tally self.new.tallied }
         ensures brought { (result ≡ brought) ⊎ (result ≡ Spent) }
         ensures same { (self.new.shared ≡ self.old.shared) × (self.new.limit ≡ self.old.limit) }
         ensures grown { HasGrown (view_of self.old.cached) (view_of self.new.cached) }
-        ensures rest { (self.new.timed ≡ self.old.timed) × (self.new.tallied ≡ self.old.tallied) × (self.new.poller ≡ self.old.poller) × (self.new.book ≡ self.old.book) }
+        ensures rest { (self.new.timed ≡ self.old.timed) × (self.new.tallied ≡ self.old.tallied)
+            × (self.new.poller ≡ self.old.poller) × (self.new.book ≡ self.old.book) }
     {
         match self.give_back(rt, lease) {
             Ok(()) => brought,
@@ -95,11 +109,16 @@ impl<P: Poller, F: Files, C: Clock, B: Book<Finished<P::Link, F>>, G: Gate> Serv
         kept: Option<Lease<F>>,
         spent: Option<Lease<F>>,
     ) -> Result<Option<Lease<F>>, CacheSpent>
-        requires own { AreOfCells (arc_value self.old.shared).times self.old.timed (arc_value self.old.shared).cache self.old.cached (arc_value self.old.shared).tally self.old.tallied }
-        ensures own { AreOfCells (arc_value self.new.shared).times self.new.timed (arc_value self.new.shared).cache self.new.cached (arc_value self.new.shared).tally self.new.tallied }
+        requires own { AreOfCells (arc_value self.old.shared).times self.old.timed
+            (arc_value self.old.shared).cache self.old.cached
+            (arc_value self.old.shared).tally self.old.tallied }
+        ensures own { AreOfCells (arc_value self.new.shared).times self.new.timed
+            (arc_value self.new.shared).cache self.new.cached
+            (arc_value self.new.shared).tally self.new.tallied }
         ensures same { (self.new.shared ≡ self.old.shared) × (self.new.limit ≡ self.old.limit) }
         ensures grown { HasGrown (view_of self.old.cached) (view_of self.new.cached) }
-        ensures rest { (self.new.timed ≡ self.old.timed) × (self.new.tallied ≡ self.old.tallied) × (self.new.poller ≡ self.old.poller) × (self.new.book ≡ self.old.book) }
+        ensures rest { (self.new.timed ≡ self.old.timed) × (self.new.tallied ≡ self.old.tallied)
+            × (self.new.poller ≡ self.old.poller) × (self.new.book ≡ self.old.book) }
     {
         let Some(lease) = spent else {
             return Ok(kept);
@@ -116,11 +135,18 @@ impl<P: Poller, F: Files, C: Clock, B: Book<Finished<P::Link, F>>, G: Gate> Serv
         rt: &R,
         lease: Option<Lease<F>>,
     ) -> Result<(), CacheSpent>
-        requires own { AreOfCells (arc_value self.old.shared).times self.old.timed (arc_value self.old.shared).cache self.old.cached (arc_value self.old.shared).tally self.old.tallied }
-        ensures own { AreOfCells (arc_value self.new.shared).times self.new.timed (arc_value self.new.shared).cache self.new.cached (arc_value self.new.shared).tally self.new.tallied }
+        requires own { AreOfCells (arc_value self.old.shared).times self.old.timed
+            (arc_value self.old.shared).cache self.old.cached
+            (arc_value self.old.shared).tally self.old.tallied }
+        ensures own { AreOfCells (arc_value self.new.shared).times self.new.timed
+            (arc_value self.new.shared).cache self.new.cached
+            (arc_value self.new.shared).tally self.new.tallied }
         ensures same { (self.new.shared ≡ self.old.shared) × (self.new.limit ≡ self.old.limit) }
-        ensures stays { HaveGrown (view_of self.old.cached) (view_of self.new.cached) (view_of self.old.tallied) (view_of self.new.tallied) × LeavesPolls P.meaning self.old.poller self.new.poller }
-        ensures rest { (self.new.timed ≡ self.old.timed) × (self.new.tallied ≡ self.old.tallied) × (self.new.poller ≡ self.old.poller) × (self.new.book ≡ self.old.book) }
+        ensures stays { HaveGrown (view_of self.old.cached) (view_of self.new.cached)
+            (view_of self.old.tallied) (view_of self.new.tallied)
+            × LeavesPolls P.meaning self.old.poller self.new.poller }
+        ensures rest { (self.new.timed ≡ self.old.timed) × (self.new.tallied ≡ self.old.tallied)
+            × (self.new.poller ≡ self.old.poller) × (self.new.book ≡ self.old.book) }
     {
         let Some(lease) = lease else {
             return Ok(());
@@ -138,12 +164,18 @@ impl<P: Poller, F: Files, C: Clock, B: Book<Finished<P::Link, F>>, G: Gate> Serv
         path: &str,
         kept: Option<Lease<F>>,
     ) -> Result<Supply<Lease<F>>, CacheSpent>
-        requires own { AreOfCells (arc_value self.old.shared).times self.old.timed (arc_value self.old.shared).cache self.old.cached (arc_value self.old.shared).tally self.old.tallied }
-        ensures own { AreOfCells (arc_value self.new.shared).times self.new.timed (arc_value self.new.shared).cache self.new.cached (arc_value self.new.shared).tally self.new.tallied }
-        ensures there { IfOk result (λ got. Supplies F.folder (λ lease. F.file_path lease.file) path.now got) }
+        requires own { AreOfCells (arc_value self.old.shared).times self.old.timed
+            (arc_value self.old.shared).cache self.old.cached
+            (arc_value self.old.shared).tally self.old.tallied }
+        ensures own { AreOfCells (arc_value self.new.shared).times self.new.timed
+            (arc_value self.new.shared).cache self.new.cached
+            (arc_value self.new.shared).tally self.new.tallied }
+        ensures there { IfOk result
+            (λ got. Supplies F.folder (λ lease. F.file_path lease.file) path.now got) }
         ensures same { (self.new.shared ≡ self.old.shared) × (self.new.limit ≡ self.old.limit) }
         ensures grown { HasGrown (view_of self.old.cached) (view_of self.new.cached) }
-        ensures rest { (self.new.timed ≡ self.old.timed) × (self.new.tallied ≡ self.old.tallied) × (self.new.poller ≡ self.old.poller) × (self.new.book ≡ self.old.book) }
+        ensures rest { (self.new.timed ≡ self.old.timed) × (self.new.tallied ≡ self.old.tallied)
+            × (self.new.poller ≡ self.old.poller) × (self.new.book ≡ self.old.book) }
     {
         let Some(lease) = kept else {
             return self.look_up(rt, path);
@@ -159,12 +191,18 @@ impl<P: Poller, F: Files, C: Clock, B: Book<Finished<P::Link, F>>, G: Gate> Serv
 
     /// What the shared cache finds at a path.
     fn look_up<R: Wait>(&mut self, rt: &R, path: &str) -> Result<Supply<Lease<F>>, CacheSpent>
-        requires own { AreOfCells (arc_value self.old.shared).times self.old.timed (arc_value self.old.shared).cache self.old.cached (arc_value self.old.shared).tally self.old.tallied }
-        ensures own { AreOfCells (arc_value self.new.shared).times self.new.timed (arc_value self.new.shared).cache self.new.cached (arc_value self.new.shared).tally self.new.tallied }
-        ensures there { IfOk result (λ got. Supplies F.folder (λ lease. F.file_path lease.file) path.now got) }
+        requires own { AreOfCells (arc_value self.old.shared).times self.old.timed
+            (arc_value self.old.shared).cache self.old.cached
+            (arc_value self.old.shared).tally self.old.tallied }
+        ensures own { AreOfCells (arc_value self.new.shared).times self.new.timed
+            (arc_value self.new.shared).cache self.new.cached
+            (arc_value self.new.shared).tally self.new.tallied }
+        ensures there { IfOk result
+            (λ got. Supplies F.folder (λ lease. F.file_path lease.file) path.now got) }
         ensures same { (self.new.shared ≡ self.old.shared) × (self.new.limit ≡ self.old.limit) }
         ensures grown { HasGrown (view_of self.old.cached) (view_of self.new.cached) }
-        ensures rest { (self.new.timed ≡ self.old.timed) × (self.new.tallied ≡ self.old.tallied) × (self.new.poller ≡ self.old.poller) × (self.new.book ≡ self.old.book) }
+        ensures rest { (self.new.timed ≡ self.old.timed) × (self.new.tallied ≡ self.old.tallied)
+            × (self.new.poller ≡ self.old.poller) × (self.new.book ≡ self.old.book) }
     {
         match acquire(
             self.alloc,

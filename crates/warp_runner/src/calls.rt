@@ -42,8 +42,8 @@ pub(crate) fn open<T: Load, R: Wait>(
     mgr.open_fd(rt, pass)
 }
 
-/// Opens a descriptor, and tries again where none is to be had, which nothing hinders: it is for the listener,
-/// before anything else is open.
+/// Opens a descriptor, and tries again where none is to be had, which nothing hinders: it is for the
+/// listener, before anything else is open.
 pub(crate) fn open_until_given<T: Load, R: Wait>(
     rt: &R,
     mgr: &EventManager<T>,
@@ -100,7 +100,8 @@ pub(crate) fn register<T: Load, R: Wait>(
 ) -> Registered<T>
     requires { IsOfMgr mgr.now pass.old }
     ensures own { IsOfMgr mgr.now pass.new }
-    ensures registered { HasRegisteredIt (T.tag job) opening dir mark job (mgr_view pass.old) result (mgr_view pass.new) }
+    ensures registered { HasRegisteredIt (T.tag job) opening dir mark job (mgr_view pass.old) result
+        (mgr_view pass.new) }
 {
     // Laws of the calls, for the proof: they do nothing when run.
     calls_of_runs::<T>();
@@ -137,7 +138,8 @@ pub(crate) fn register_until_taken<T: Load, R: Wait>(
 ) -> Result<Option<Event>, NumbersSpent>
     requires { IsOfMgr mgr.now pass.old }
     ensures own { IsOfMgr mgr.now pass.new }
-    ensures registered { HasTriedUntil (T.tag job) opening dir mark (mgr_view pass.old) result (mgr_view pass.new) }
+    ensures registered { HasTriedUntil (T.tag job) opening dir mark (mgr_view pass.old) result
+        (mgr_view pass.new) }
 {
     // Laws of the calls, for the proof: they do nothing when run.
     calls_of_runs::<T>();

@@ -47,13 +47,23 @@ impl<P: Poller, F: Files, C: Clock, B: Book<Finished<P::Link, F>>, G: Gate> Serv
         end: Finish,
     ) -> Option<u8>
         requires mgr { IsOfMgr mgr.now pass.old }
-        requires own { AreOfCells (arc_value self.old.shared).times self.old.timed (arc_value self.old.shared).cache self.old.cached (arc_value self.old.shared).tally self.old.tallied }
+        requires own { AreOfCells (arc_value self.old.shared).times self.old.timed
+            (arc_value self.old.shared).cache self.old.cached
+            (arc_value self.old.shared).tally self.old.tallied }
         requires may { MayFinish end session.conn }
         ensures mgr { IsOfMgr mgr.now pass.new }
-        ensures own { AreOfCells (arc_value self.new.shared).times self.new.timed (arc_value self.new.shared).cache self.new.cached (arc_value self.new.shared).tally self.new.tallied }
-        ensures did { (acts : Acts) × Did (told_of (mgr_view pass.old) (view_of self.old.tallied) (seen_of self.old.timed) (B.told self.old.book)) acts [] (told_of (mgr_view pass.new) (view_of self.new.tallied) (seen_of self.new.timed) (B.told self.new.book)) × IsEnding session.watch (finished_held session end) acts result }
+        ensures own { AreOfCells (arc_value self.new.shared).times self.new.timed
+            (arc_value self.new.shared).cache self.new.cached
+            (arc_value self.new.shared).tally self.new.tallied }
+        ensures did { (acts : Acts)
+            × Did (told_of (mgr_view pass.old) (view_of self.old.tallied)
+            (seen_of self.old.timed) (B.told self.old.book)) acts [] (told_of (mgr_view pass.new)
+            (view_of self.new.tallied) (seen_of self.new.timed) (B.told self.new.book))
+            × IsEnding session.watch (finished_held session end) acts result }
         ensures same { (self.new.shared ≡ self.old.shared) × (self.new.limit ≡ self.old.limit) }
-        ensures stays { HaveGrown (view_of self.old.cached) (view_of self.new.cached) (view_of self.old.tallied) (view_of self.new.tallied) × LeavesPolls P.meaning self.old.poller self.new.poller }
+        ensures stays { HaveGrown (view_of self.old.cached) (view_of self.new.cached)
+            (view_of self.old.tallied) (view_of self.new.tallied)
+            × LeavesPolls P.meaning self.old.poller self.new.poller }
     {
         let opening = session.opening();
         // A law of the calls, for the proof: it does nothing when run.
@@ -71,12 +81,22 @@ impl<P: Poller, F: Files, C: Clock, B: Book<Finished<P::Link, F>>, G: Gate> Serv
         session: Session<P::Link, F>,
         end: Finish,
     ) -> Option<u8>
-        requires own { AreOfCells (arc_value self.old.shared).times self.old.timed (arc_value self.old.shared).cache self.old.cached (arc_value self.old.shared).tally self.old.tallied }
+        requires own { AreOfCells (arc_value self.old.shared).times self.old.timed
+            (arc_value self.old.shared).cache self.old.cached
+            (arc_value self.old.shared).tally self.old.tallied }
         requires may { MayFinish end session.conn }
-        ensures own { AreOfCells (arc_value self.new.shared).times self.new.timed (arc_value self.new.shared).cache self.new.cached (arc_value self.new.shared).tally self.new.tallied }
-        ensures did { (acts : Acts) × ((v : MgrView) → Did (told_of v (view_of self.old.tallied) (seen_of self.old.timed) (B.told self.old.book)) acts [] (told_of v (view_of self.new.tallied) (seen_of self.new.timed) (B.told self.new.book))) × IsParting session.watch (finished_held session end) acts result }
+        ensures own { AreOfCells (arc_value self.new.shared).times self.new.timed
+            (arc_value self.new.shared).cache self.new.cached
+            (arc_value self.new.shared).tally self.new.tallied }
+        ensures did { (acts : Acts)
+            × ((v : MgrView)
+            → Did (told_of v (view_of self.old.tallied) (seen_of self.old.timed) (B.told self.old.book)) acts
+            [] (told_of v (view_of self.new.tallied) (seen_of self.new.timed) (B.told self.new.book)))
+            × IsParting session.watch (finished_held session end) acts result }
         ensures same { (self.new.shared ≡ self.old.shared) × (self.new.limit ≡ self.old.limit) }
-        ensures stays { HaveGrown (view_of self.old.cached) (view_of self.new.cached) (view_of self.old.tallied) (view_of self.new.tallied) × LeavesPolls P.meaning self.old.poller self.new.poller }
+        ensures stays { HaveGrown (view_of self.old.cached) (view_of self.new.cached)
+            (view_of self.old.tallied) (view_of self.new.tallied)
+            × LeavesPolls P.meaning self.old.poller self.new.poller }
     {
         // A law of the calls, for the proof: it does nothing when run.
         calls_of_runs::<Job<P, F>>();
@@ -100,14 +120,24 @@ impl<P: Poller, F: Files, C: Clock, B: Book<Finished<P::Link, F>>, G: Gate> Serv
         end: Finish,
     ) -> Option<u8>
         requires mgr { IsOfMgr mgr.now pass.old }
-        requires own { AreOfCells (arc_value self.old.shared).times self.old.timed (arc_value self.old.shared).cache self.old.cached (arc_value self.old.shared).tally self.old.tallied }
+        requires own { AreOfCells (arc_value self.old.shared).times self.old.timed
+            (arc_value self.old.shared).cache self.old.cached
+            (arc_value self.old.shared).tally self.old.tallied }
         requires untouched { IsUntouched (P.Link.told link) }
         requires given_up { IsGivenUp end }
         ensures mgr { IsOfMgr mgr.now pass.new }
-        ensures own { AreOfCells (arc_value self.new.shared).times self.new.timed (arc_value self.new.shared).cache self.new.cached (arc_value self.new.shared).tally self.new.tallied }
-        ensures did { (acts : Acts) × Did (told_of (mgr_view pass.old) (view_of self.old.tallied) (seen_of self.old.timed) (B.told self.old.book)) acts [] (told_of (mgr_view pass.new) (view_of self.new.tallied) (seen_of self.new.timed) (B.told self.new.book)) × IsEndingBare (unserved opening (P.Link.told link) end) acts result }
+        ensures own { AreOfCells (arc_value self.new.shared).times self.new.timed
+            (arc_value self.new.shared).cache self.new.cached
+            (arc_value self.new.shared).tally self.new.tallied }
+        ensures did { (acts : Acts)
+            × Did (told_of (mgr_view pass.old) (view_of self.old.tallied)
+            (seen_of self.old.timed) (B.told self.old.book)) acts [] (told_of (mgr_view pass.new)
+            (view_of self.new.tallied) (seen_of self.new.timed) (B.told self.new.book))
+            × IsEndingBare (unserved opening (P.Link.told link) end) acts result }
         ensures same { (self.new.shared ≡ self.old.shared) × (self.new.limit ≡ self.old.limit) }
-        ensures stays { HaveGrown (view_of self.old.cached) (view_of self.new.cached) (view_of self.old.tallied) (view_of self.new.tallied) × LeavesPolls P.meaning self.old.poller self.new.poller }
+        ensures stays { HaveGrown (view_of self.old.cached) (view_of self.new.cached)
+            (view_of self.old.tallied) (view_of self.new.tallied)
+            × LeavesPolls P.meaning self.old.poller self.new.poller }
     {
         // A law of the calls, for the proof: it does nothing when run.
         calls_of_runs::<Job<P, F>>();
@@ -123,11 +153,22 @@ impl<P: Poller, F: Files, C: Clock, B: Book<Finished<P::Link, F>>, G: Gate> Serv
 
     /// Counts a connection as finished, and hands it to the book where it counted.
     pub(crate) fn hand<R: Wait>(&mut self, rt: &R, done: Finished<P::Link, F>) -> Option<u8>
-        requires own { AreOfCells (arc_value self.old.shared).times self.old.timed (arc_value self.old.shared).cache self.old.cached (arc_value self.old.shared).tally self.old.tallied }
-        ensures own { AreOfCells (arc_value self.new.shared).times self.new.timed (arc_value self.new.shared).cache self.new.cached (arc_value self.new.shared).tally self.new.tallied }
-        ensures did { (acts : Acts) × ((v : MgrView) → Did (told_of v (view_of self.old.tallied) (seen_of self.old.timed) (B.told self.old.book)) acts [] (told_of v (view_of self.new.tallied) (seen_of self.new.timed) (B.told self.new.book))) × IsHanding (finished_as done.opening (P.Link.told done.link) done.moments.items done.bytes done.waits done.end) acts result }
+        requires own { AreOfCells (arc_value self.old.shared).times self.old.timed
+            (arc_value self.old.shared).cache self.old.cached
+            (arc_value self.old.shared).tally self.old.tallied }
+        ensures own { AreOfCells (arc_value self.new.shared).times self.new.timed
+            (arc_value self.new.shared).cache self.new.cached
+            (arc_value self.new.shared).tally self.new.tallied }
+        ensures did { (acts : Acts)
+            × ((v : MgrView)
+            → Did (told_of v (view_of self.old.tallied) (seen_of self.old.timed) (B.told self.old.book)) acts
+            [] (told_of v (view_of self.new.tallied) (seen_of self.new.timed) (B.told self.new.book)))
+            × IsHanding (finished_as done.opening
+            (P.Link.told done.link) done.moments.items done.bytes done.waits done.end) acts result }
         ensures same { (self.new.shared ≡ self.old.shared) × (self.new.limit ≡ self.old.limit) }
-        ensures stays { HaveGrown (view_of self.old.cached) (view_of self.new.cached) (view_of self.old.tallied) (view_of self.new.tallied) × LeavesPolls P.meaning self.old.poller self.new.poller }
+        ensures stays { HaveGrown (view_of self.old.cached) (view_of self.new.cached)
+            (view_of self.old.tallied) (view_of self.new.tallied)
+            × LeavesPolls P.meaning self.old.poller self.new.poller }
     {
         // Laws, for the proof: they do nothing when run.
         calls_of_runs::<Job<P, F>>();
@@ -150,7 +191,8 @@ impl<P: Poller, F: Files, C: Clock, B: Book<Finished<P::Link, F>>, G: Gate> Serv
 pub(crate) fn cancel<R: Wait>(rt: &R, times: &Timeouts, pass: &mut TimePass, watch: Watch)
     requires { IsOf times.now pass.old }
     ensures own { IsOf times.now pass.new }
-    ensures cancels { (cancels : List TimeCall) × AreCancels (name_of_watch watch) cancels × (calls_of (seen_of pass.new) ≡ calls_of (seen_of pass.old) ++ cancels) }
+    ensures cancels { (cancels : List TimeCall) × AreCancels (name_of_watch watch) cancels
+        × (calls_of (seen_of pass.new) ≡ calls_of (seen_of pass.old) ++ cancels) }
 {
     let mut left = watch;
     for _ in rt.forever() {

@@ -29,11 +29,21 @@ impl<P: Poller, F: Files, C: Clock, B: Book<Finished<P::Link, F>>, G: Gate> Serv
 > {
     /// Asks the tally for its counts.
     pub fn look<R: Wait>(&mut self, rt: &R) -> TallyOut
-        requires own { AreOfCells (arc_value self.old.shared).times self.old.timed (arc_value self.old.shared).cache self.old.cached (arc_value self.old.shared).tally self.old.tallied }
-        ensures own { AreOfCells (arc_value self.new.shared).times self.new.timed (arc_value self.new.shared).cache self.new.cached (arc_value self.new.shared).tally self.new.tallied }
-        ensures fits { (stop : Option ℕ) (v : MgrView) (jobs : Jobs) → FitsUntil self.old.limit stop (told_of v (view_of self.old.tallied) (seen_of self.old.timed) (B.told self.old.book)) jobs → FitsUntil self.new.limit stop (told_of v (view_of self.new.tallied) (seen_of self.new.timed) (B.told self.new.book)) jobs }
+        requires own { AreOfCells (arc_value self.old.shared).times self.old.timed
+            (arc_value self.old.shared).cache self.old.cached
+            (arc_value self.old.shared).tally self.old.tallied }
+        ensures own { AreOfCells (arc_value self.new.shared).times self.new.timed
+            (arc_value self.new.shared).cache self.new.cached
+            (arc_value self.new.shared).tally self.new.tallied }
+        ensures fits { (stop : Option ℕ) (v : MgrView) (jobs : Jobs)
+            → FitsUntil self.old.limit stop
+            (told_of v (view_of self.old.tallied) (seen_of self.old.timed) (B.told self.old.book)) jobs
+            → FitsUntil self.new.limit stop
+            (told_of v (view_of self.new.tallied) (seen_of self.new.timed) (B.told self.new.book)) jobs }
         ensures same { (self.new.shared ≡ self.old.shared) × (self.new.limit ≡ self.old.limit) }
-        ensures stays { HaveGrown (view_of self.old.cached) (view_of self.new.cached) (view_of self.old.tallied) (view_of self.new.tallied) × LeavesPolls P.meaning self.old.poller self.new.poller }
+        ensures stays { HaveGrown (view_of self.old.cached) (view_of self.new.cached)
+            (view_of self.old.tallied) (view_of self.new.tallied)
+            × LeavesPolls P.meaning self.old.poller self.new.poller }
         ensures called { HasCalled Look (view_of self.old.tallied) result (view_of self.new.tallied) }
     {
         // A law of the calls, for the proof: it does nothing when run.
@@ -43,11 +53,21 @@ impl<P: Poller, F: Files, C: Clock, B: Book<Finished<P::Link, F>>, G: Gate> Serv
 
     /// Tells the tally that this dispatcher stops with this code. The first stop counts and is kept.
     pub fn note_stop<R: Wait>(&mut self, rt: &R, code: u8) -> TallyOut
-        requires own { AreOfCells (arc_value self.old.shared).times self.old.timed (arc_value self.old.shared).cache self.old.cached (arc_value self.old.shared).tally self.old.tallied }
-        ensures own { AreOfCells (arc_value self.new.shared).times self.new.timed (arc_value self.new.shared).cache self.new.cached (arc_value self.new.shared).tally self.new.tallied }
-        ensures fits { (stop : Option ℕ) (v : MgrView) (jobs : Jobs) → FitsUntil self.old.limit stop (told_of v (view_of self.old.tallied) (seen_of self.old.timed) (B.told self.old.book)) jobs → FitsUntil self.new.limit stop (told_of v (view_of self.new.tallied) (seen_of self.new.timed) (B.told self.new.book)) jobs }
+        requires own { AreOfCells (arc_value self.old.shared).times self.old.timed
+            (arc_value self.old.shared).cache self.old.cached
+            (arc_value self.old.shared).tally self.old.tallied }
+        ensures own { AreOfCells (arc_value self.new.shared).times self.new.timed
+            (arc_value self.new.shared).cache self.new.cached
+            (arc_value self.new.shared).tally self.new.tallied }
+        ensures fits { (stop : Option ℕ) (v : MgrView) (jobs : Jobs)
+            → FitsUntil self.old.limit stop
+            (told_of v (view_of self.old.tallied) (seen_of self.old.timed) (B.told self.old.book)) jobs
+            → FitsUntil self.new.limit stop
+            (told_of v (view_of self.new.tallied) (seen_of self.new.timed) (B.told self.new.book)) jobs }
         ensures same { (self.new.shared ≡ self.old.shared) × (self.new.limit ≡ self.old.limit) }
-        ensures stays { HaveGrown (view_of self.old.cached) (view_of self.new.cached) (view_of self.old.tallied) (view_of self.new.tallied) × LeavesPolls P.meaning self.old.poller self.new.poller }
+        ensures stays { HaveGrown (view_of self.old.cached) (view_of self.new.cached)
+            (view_of self.old.tallied) (view_of self.new.tallied)
+            × LeavesPolls P.meaning self.old.poller self.new.poller }
         ensures called { HasCalled (Stop code) (view_of self.old.tallied) result (view_of self.new.tallied) }
     {
         // A law of the calls, for the proof: it does nothing when run.

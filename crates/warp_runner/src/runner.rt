@@ -35,7 +35,7 @@ pub struct ServerRunner<P: Poller, F: Files, C, B, G> {
     pub scratch: Scratch,
     /// The listener, where this dispatcher ran it last.
     pub back: Option<P::Listener>,
-    /// After so many links the listener is closed.
+    /// After this many links the listener is closed.
     pub limit: u64,
     /// The code with which the last run stopped.
     pub stop: Option<u8>,
@@ -65,7 +65,9 @@ impl<P: Poller, F: Files, C: Clock, B: Book<Finished<P::Link, F>>, G: Gate> Runn
     ghost meaning = { record {
       poller_of = λ r. r.poller;
       with_poller = λ r p. record r { poller = p };
-      fits = λ r v jobs. (AreOfCells (arc_value r.shared).times r.timed (arc_value r.shared).cache r.cached (arc_value r.shared).tally r.tallied)
+      fits = λ r v jobs.
+          (AreOfCells (arc_value r.shared).times r.timed (arc_value r.shared).cache r.cached
+          (arc_value r.shared).tally r.tallied)
           × FitsUntil r.limit r.stop (told_of v (view_of r.tallied) (seen_of r.timed) (B.told r.book)) jobs;
       keeps = λ r s. (s.shared ≡ r.shared) × (s.limit ≡ r.limit)
           × HaveGrown (view_of r.cached) (view_of s.cached) (view_of r.tallied) (view_of s.tallied);
@@ -109,10 +111,19 @@ impl<P: Poller, F: Files, C: Clock, B: Book<Finished<P::Link, F>>, G: Gate> Runn
       lent_runs = λ r p. refl;
       lent_shuts = λ r p. refl;
       keeps_same = λ r. (refl, refl, grown_none _ _);
-      keeps_on = λ r s t a b. (same_trans _ _ _ a.0 b.0, same_trans _ _ _ a.1 b.1, grown_then _ _ _ _ _ _ a.2 b.2);
+      keeps_on = λ r s t a b.
+          (same_trans _ _ _ a.0 b.0, same_trans _ _ _ a.1 b.1, grown_then _ _ _ _ _ _ a.2 b.2);
       keeps_polled = λ r idle result out p h. (refl, refl, grown_none _ _);
       fits_polled = λ r idle result out p v jobs h f. f;
-      fits_reported = λ r o ds v reply w jobs lv lw h f. (f.0, fits_report r.limit r.stop (view_of r.tallied) (seen_of r.timed) (B.told r.book) o ds v reply w jobs h f.1);
-      fits_dispatched = λ r e v reply w jobs lv lw h f. (f.0, fits_dispatch (λ job. tag_of job) r.limit r.stop (view_of r.tallied) (seen_of r.timed) (B.told r.book) e v reply w jobs h f.1);
+      fits_reported = λ r o ds v reply w jobs lv lw h f. (
+        f.0,
+        fits_report r.limit r.stop (view_of r.tallied) (seen_of r.timed)
+            (B.told r.book) o ds v reply w jobs h f.1,
+      );
+      fits_dispatched = λ r e v reply w jobs lv lw h f. (
+        f.0,
+        fits_dispatch (λ job. tag_of job) r.limit r.stop (view_of r.tallied) (seen_of r.timed)
+            (B.told r.book) e v reply w jobs h f.1,
+      );
     } };
 }

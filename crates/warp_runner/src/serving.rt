@@ -28,8 +28,8 @@ use timeout_mgr::TickleOut;
 use warp_books::{Book, Finish, Finished, Turned};
 use warp_jobs::{Gate, Job, Session};
 
-/// What a run came to: the events that its calls named, and the code with which it stopped the dispatcher, if it
-/// did.
+/// What a run came to: the events that its calls named, and the code with which it
+/// stopped the dispatcher, if it did.
 #[derive(Drop)]
 pub struct Ran {
     pub first: Option<Event>,
@@ -103,12 +103,22 @@ impl<P: Poller, F: Files, C: Clock, B: Book<Finished<P::Link, F>>, G: Gate> Serv
         marks: Marks,
     ) -> Ran
         requires mgr { IsOfMgr mgr.now pass.old }
-        requires own { AreOfCells (arc_value self.old.shared).times self.old.timed (arc_value self.old.shared).cache self.old.cached (arc_value self.old.shared).tally self.old.tallied }
+        requires own { AreOfCells (arc_value self.old.shared).times self.old.timed
+            (arc_value self.old.shared).cache self.old.cached
+            (arc_value self.old.shared).tally self.old.tallied }
         ensures mgr { IsOfMgr mgr.now pass.new }
-        ensures own { AreOfCells (arc_value self.new.shared).times self.new.timed (arc_value self.new.shared).cache self.new.cached (arc_value self.new.shared).tally self.new.tallied }
-        ensures ran { (f : Firing) → f.1.kind ≡ Kinds.Job (tag_of job) → f.1.marks ≡ marks → HasRun self.old.limit f (told_of (mgr_view pass.old) (view_of self.old.tallied) (seen_of self.old.timed) (B.told self.old.book)) (named result) result.stopped (told_of (mgr_view pass.new) (view_of self.new.tallied) (seen_of self.new.timed) (B.told self.new.book)) }
+        ensures own { AreOfCells (arc_value self.new.shared).times self.new.timed
+            (arc_value self.new.shared).cache self.new.cached
+            (arc_value self.new.shared).tally self.new.tallied }
+        ensures ran { (f : Firing) → f.1.kind ≡ Kinds.Job (tag_of job) → f.1.marks ≡ marks
+            → HasRun self.old.limit f
+            (told_of (mgr_view pass.old) (view_of self.old.tallied) (seen_of self.old.timed)
+            (B.told self.old.book)) (named result) result.stopped (told_of (mgr_view pass.new)
+            (view_of self.new.tallied) (seen_of self.new.timed) (B.told self.new.book)) }
         ensures same { (self.new.shared ≡ self.old.shared) × (self.new.limit ≡ self.old.limit) }
-        ensures stays { HaveGrown (view_of self.old.cached) (view_of self.new.cached) (view_of self.old.tallied) (view_of self.new.tallied) × LeavesPolls P.meaning self.old.poller self.new.poller }
+        ensures stays { HaveGrown (view_of self.old.cached) (view_of self.new.cached)
+            (view_of self.old.tallied) (view_of self.new.tallied)
+            × LeavesPolls P.meaning self.old.poller self.new.poller }
     {
         match job {
             Job::Serve(session) => self.serve(rt, mgr, pass, session, marks),
@@ -127,15 +137,27 @@ impl<P: Poller, F: Files, C: Clock, B: Book<Finished<P::Link, F>>, G: Gate> Serv
         marks: Marks,
     ) -> Ran
         requires mgr { IsOfMgr mgr.now pass.old }
-        requires own { AreOfCells (arc_value self.old.shared).times self.old.timed (arc_value self.old.shared).cache self.old.cached (arc_value self.old.shared).tally self.old.tallied }
+        requires own { AreOfCells (arc_value self.old.shared).times self.old.timed
+            (arc_value self.old.shared).cache self.old.cached
+            (arc_value self.old.shared).tally self.old.tallied }
         ensures mgr { IsOfMgr mgr.now pass.new }
-        ensures own { AreOfCells (arc_value self.new.shared).times self.new.timed (arc_value self.new.shared).cache self.new.cached (arc_value self.new.shared).tally self.new.tallied }
-        ensures did { (acts : Acts) × Did (told_of (mgr_view pass.old) (view_of self.old.tallied) (seen_of self.old.timed) (B.told self.old.book)) acts (named result) (told_of (mgr_view pass.new) (view_of self.new.tallied) (seen_of self.new.timed) (B.told self.new.book)) × IsConnectionRun session.value marks acts result.stopped }
+        ensures own { AreOfCells (arc_value self.new.shared).times self.new.timed
+            (arc_value self.new.shared).cache self.new.cached
+            (arc_value self.new.shared).tally self.new.tallied }
+        ensures did { (acts : Acts)
+            × Did (told_of (mgr_view pass.old) (view_of self.old.tallied) (seen_of self.old.timed)
+            (B.told self.old.book)) acts (named result) (told_of (mgr_view pass.new)
+            (view_of self.new.tallied) (seen_of self.new.timed) (B.told self.new.book))
+            × IsConnectionRun session.value marks acts result.stopped }
+        ensures counted { session.value.conn.waits ≡ session.value.number }
         ensures same { (self.new.shared ≡ self.old.shared) × (self.new.limit ≡ self.old.limit) }
-        ensures stays { HaveGrown (view_of self.old.cached) (view_of self.new.cached) (view_of self.old.tallied) (view_of self.new.tallied) × LeavesPolls P.meaning self.old.poller self.new.poller }
+        ensures stays { HaveGrown (view_of self.old.cached) (view_of self.new.cached)
+            (view_of self.old.tallied) (view_of self.new.tallied)
+            × LeavesPolls P.meaning self.old.poller self.new.poller }
     {
-        // A law of the calls, for the proof: it does nothing when run.
+        // Laws of the calls and of connections, for the proof: they do nothing when run.
         calls_of_runs::<Job<P, F>>();
+        session.keeps_its_counts();
         let mut session = session;
         self.gate.pass(session.opening());
         if !self.is_alive(&session) {
@@ -164,12 +186,22 @@ impl<P: Poller, F: Files, C: Clock, B: Book<Finished<P::Link, F>>, G: Gate> Serv
         mark: Option<u64>,
     ) -> Ran
         requires mgr { IsOfMgr mgr.now pass.old }
-        requires own { AreOfCells (arc_value self.old.shared).times self.old.timed (arc_value self.old.shared).cache self.old.cached (arc_value self.old.shared).tally self.old.tallied }
+        requires own { AreOfCells (arc_value self.old.shared).times self.old.timed
+            (arc_value self.old.shared).cache self.old.cached
+            (arc_value self.old.shared).tally self.old.tallied }
         ensures mgr { IsOfMgr mgr.now pass.new }
-        ensures own { AreOfCells (arc_value self.new.shared).times self.new.timed (arc_value self.new.shared).cache self.new.cached (arc_value self.new.shared).tally self.new.tallied }
-        ensures did { (acts : Acts) × Did (told_of (mgr_view pass.old) (view_of self.old.tallied) (seen_of self.old.timed) (B.told self.old.book)) acts (named result) (told_of (mgr_view pass.new) (view_of self.new.tallied) (seen_of self.new.timed) (B.told self.new.book)) × IsRegistering session.value dir mark acts result.stopped }
+        ensures own { AreOfCells (arc_value self.new.shared).times self.new.timed
+            (arc_value self.new.shared).cache self.new.cached
+            (arc_value self.new.shared).tally self.new.tallied }
+        ensures did { (acts : Acts)
+            × Did (told_of (mgr_view pass.old) (view_of self.old.tallied) (seen_of self.old.timed)
+            (B.told self.old.book)) acts (named result) (told_of (mgr_view pass.new)
+            (view_of self.new.tallied) (seen_of self.new.timed) (B.told self.new.book))
+            × IsRegistering session.value dir mark acts result.stopped }
         ensures same { (self.new.shared ≡ self.old.shared) × (self.new.limit ≡ self.old.limit) }
-        ensures stays { HaveGrown (view_of self.old.cached) (view_of self.new.cached) (view_of self.old.tallied) (view_of self.new.tallied) × LeavesPolls P.meaning self.old.poller self.new.poller }
+        ensures stays { HaveGrown (view_of self.old.cached) (view_of self.new.cached)
+            (view_of self.old.tallied) (view_of self.new.tallied)
+            × LeavesPolls P.meaning self.old.poller self.new.poller }
         ensures one { NamesOne result }
     {
         // A law of the calls, for the proof: it does nothing when run.
@@ -193,11 +225,19 @@ impl<P: Poller, F: Files, C: Clock, B: Book<Finished<P::Link, F>>, G: Gate> Serv
 
     /// Tickles the watch over a connection: whether no sweep gave it.
     fn is_alive(&mut self, session: &Session<P::Link, F>) -> bool
-        requires own { AreOfCells (arc_value self.old.shared).times self.old.timed (arc_value self.old.shared).cache self.old.cached (arc_value self.old.shared).tally self.old.tallied }
-        ensures own { AreOfCells (arc_value self.new.shared).times self.new.timed (arc_value self.new.shared).cache self.new.cached (arc_value self.new.shared).tally self.new.tallied }
+        requires own { AreOfCells (arc_value self.old.shared).times self.old.timed
+            (arc_value self.old.shared).cache self.old.cached
+            (arc_value self.old.shared).tally self.old.tallied }
+        ensures own { AreOfCells (arc_value self.new.shared).times self.new.timed
+            (arc_value self.new.shared).cache self.new.cached
+            (arc_value self.new.shared).tally self.new.tallied }
         ensures same { (self.new.shared ≡ self.old.shared) × (self.new.limit ≡ self.old.limit) }
-        ensures did { (v : MgrView) → Did (told_of v (view_of self.old.tallied) (seen_of self.old.timed) (B.told self.old.book)) (watched (Tickle session.now.watch result ∷ [])) [] (told_of v (view_of self.new.tallied) (seen_of self.new.timed) (B.told self.new.book)) }
-        ensures rest { (self.new.cached ≡ self.old.cached) × (self.new.tallied ≡ self.old.tallied) × (self.new.poller ≡ self.old.poller) × (self.new.book ≡ self.old.book) }
+        ensures did { (v : MgrView)
+            → Did (told_of v (view_of self.old.tallied) (seen_of self.old.timed) (B.told self.old.book))
+            (watched (Tickle session.now.watch result ∷ []))
+            [] (told_of v (view_of self.new.tallied) (seen_of self.new.timed) (B.told self.new.book)) }
+        ensures rest { (self.new.cached ≡ self.old.cached) × (self.new.tallied ≡ self.old.tallied)
+            × (self.new.poller ≡ self.old.poller) × (self.new.book ≡ self.old.book) }
     {
         // A law of the calls, for the proof: it does nothing when run.
         calls_of_runs::<Job<P, F>>();

@@ -10,7 +10,7 @@ ghost use Rattle.dispatcher.specs.Firings.{Jobs};
 ghost use Rattle.dispatcher.specs.Runs.{HasMadeCalls};
 ghost use Rattle.warp_runner.specs.Acts.{Acts, AreOfCells, Did, HaveGrown, told_of};
 ghost use Rattle.warp_runner.specs.Deeds.{IsStarting, IsStartingAt, IsStartFault};
-ghost use Rattle.warp_runner.specs.Journal.{Fits, FitsUntil};
+ghost use Rattle.warp_runner.specs.Journal.{JournalFits, FitsUntil};
 ghost use Rattle.warp_runner.specs.Runs.{HasFaulted, NamesOne, begun_by, code_of_start, named};
 
 use crate::calls::open_until_given;
@@ -33,9 +33,9 @@ impl<P: Poller, F: Files, C: Clock, B: Book<Finished<P::Link, F>>, G: Gate> Serv
     B,
     G,
 > {
-    /// Gives the listener an opening, adds it to the poller, and registers it for reading with no mark, so that it
-    /// runs at once. It answers the event that this named, or the code with which the dispatcher stops. Then the
-    /// listener is kept where it was not registered.
+    /// Gives the listener an opening, adds it to the poller, and registers it for reading with no mark, so
+    /// that it runs at once. It answers the event that this named, or the code with which the dispatcher
+    /// stops. Then the listener is kept where it was not registered.
     pub fn begin_listening<R: Wait>(
         &mut self,
         rt: &R,
@@ -44,13 +44,25 @@ impl<P: Poller, F: Files, C: Clock, B: Book<Finished<P::Link, F>>, G: Gate> Serv
         listener: P::Listener,
     ) -> Result<Option<Event>, u8>
         requires mgr { IsOfMgr mgr.now pass.old }
-        requires own { AreOfCells (arc_value self.old.shared).times self.old.timed (arc_value self.old.shared).cache self.old.cached (arc_value self.old.shared).tally self.old.tallied }
+        requires own { AreOfCells (arc_value self.old.shared).times self.old.timed
+            (arc_value self.old.shared).cache self.old.cached
+            (arc_value self.old.shared).tally self.old.tallied }
         requires unfailed { (P.Listener.told listener).failed_row ≡ 0 }
         ensures mgr { IsOfMgr mgr.now pass.new }
-        ensures own { AreOfCells (arc_value self.new.shared).times self.new.timed (arc_value self.new.shared).cache self.new.cached (arc_value self.new.shared).tally self.new.tallied }
-        ensures fits { (jobs : Jobs) → Fits self.old.limit (told_of (mgr_view pass.old) (view_of self.old.tallied) (seen_of self.old.timed) (B.told self.old.book)) jobs → FitsUntil self.new.limit (code_of_start result) (told_of (mgr_view pass.new) (view_of self.new.tallied) (seen_of self.new.timed) (B.told self.new.book)) jobs }
+        ensures own { AreOfCells (arc_value self.new.shared).times self.new.timed
+            (arc_value self.new.shared).cache self.new.cached
+            (arc_value self.new.shared).tally self.new.tallied }
+        ensures fits { (jobs : Jobs)
+            → JournalFits self.old.limit
+            (told_of (mgr_view pass.old) (view_of self.old.tallied)
+            (seen_of self.old.timed) (B.told self.old.book)) jobs
+            → FitsUntil self.new.limit (code_of_start result)
+            (told_of (mgr_view pass.new) (view_of self.new.tallied) (seen_of self.new.timed)
+            (B.told self.new.book)) jobs }
         ensures same { (self.new.shared ≡ self.old.shared) × (self.new.limit ≡ self.old.limit) }
-        ensures stays { HaveGrown (view_of self.old.cached) (view_of self.new.cached) (view_of self.old.tallied) (view_of self.new.tallied) × (P.meaning.polled self.new.poller ≡ P.meaning.polled self.old.poller) }
+        ensures stays { HaveGrown (view_of self.old.cached) (view_of self.new.cached)
+            (view_of self.old.tallied) (view_of self.new.tallied)
+            × (P.meaning.polled self.new.poller ≡ P.meaning.polled self.old.poller) }
         ensures made { HasMadeCalls (mgr_view pass.old) (begun_by result) (mgr_view pass.new) }
         ensures faulted { IfErr result (λ code. code ≡ 8 → 1 ≤ (P.meaning.faults self.new.poller).polls) }
     {
@@ -72,13 +84,23 @@ impl<P: Poller, F: Files, C: Clock, B: Book<Finished<P::Link, F>>, G: Gate> Serv
         listener: P::Listener,
     ) -> Ran
         requires mgr { IsOfMgr mgr.now pass.old }
-        requires own { AreOfCells (arc_value self.old.shared).times self.old.timed (arc_value self.old.shared).cache self.old.cached (arc_value self.old.shared).tally self.old.tallied }
+        requires own { AreOfCells (arc_value self.old.shared).times self.old.timed
+            (arc_value self.old.shared).cache self.old.cached
+            (arc_value self.old.shared).tally self.old.tallied }
         requires unfailed { (P.Listener.told listener).failed_row ≡ 0 }
         ensures mgr { IsOfMgr mgr.now pass.new }
-        ensures own { AreOfCells (arc_value self.new.shared).times self.new.timed (arc_value self.new.shared).cache self.new.cached (arc_value self.new.shared).tally self.new.tallied }
-        ensures did { (acts : Acts) × Did (told_of (mgr_view pass.old) (view_of self.old.tallied) (seen_of self.old.timed) (B.told self.old.book)) acts (named result) (told_of (mgr_view pass.new) (view_of self.new.tallied) (seen_of self.new.timed) (B.told self.new.book)) × IsStarting (P.Listener.told listener) acts result.stopped }
+        ensures own { AreOfCells (arc_value self.new.shared).times self.new.timed
+            (arc_value self.new.shared).cache self.new.cached
+            (arc_value self.new.shared).tally self.new.tallied }
+        ensures did { (acts : Acts)
+            × Did (told_of (mgr_view pass.old) (view_of self.old.tallied) (seen_of self.old.timed)
+            (B.told self.old.book)) acts (named result) (told_of (mgr_view pass.new)
+            (view_of self.new.tallied) (seen_of self.new.timed) (B.told self.new.book))
+            × IsStarting (P.Listener.told listener) acts result.stopped }
         ensures same { (self.new.shared ≡ self.old.shared) × (self.new.limit ≡ self.old.limit) }
-        ensures stays { HaveGrown (view_of self.old.cached) (view_of self.new.cached) (view_of self.old.tallied) (view_of self.new.tallied) × (P.meaning.polled self.new.poller ≡ P.meaning.polled self.old.poller) }
+        ensures stays { HaveGrown (view_of self.old.cached) (view_of self.new.cached)
+            (view_of self.old.tallied) (view_of self.new.tallied)
+            × (P.meaning.polled self.new.poller ≡ P.meaning.polled self.old.poller) }
         ensures one { NamesOne result }
         ensures faulted { HasFaulted result.stopped (P.meaning.faults self.new.poller).polls }
     {
@@ -100,14 +122,24 @@ impl<P: Poller, F: Files, C: Clock, B: Book<Finished<P::Link, F>>, G: Gate> Serv
         listener: P::Listener,
     ) -> Ran
         requires mgr { IsOfMgr mgr.now pass.old }
-        requires own { AreOfCells (arc_value self.old.shared).times self.old.timed (arc_value self.old.shared).cache self.old.cached (arc_value self.old.shared).tally self.old.tallied }
+        requires own { AreOfCells (arc_value self.old.shared).times self.old.timed
+            (arc_value self.old.shared).cache self.old.cached
+            (arc_value self.old.shared).tally self.old.tallied }
         requires unfailed { (P.Listener.told listener).failed_row ≡ 0 }
         requires token { HasToken opening }
         ensures mgr { IsOfMgr mgr.now pass.new }
-        ensures own { AreOfCells (arc_value self.new.shared).times self.new.timed (arc_value self.new.shared).cache self.new.cached (arc_value self.new.shared).tally self.new.tallied }
-        ensures did { (acts : Acts) × Did (told_of (mgr_view pass.old) (view_of self.old.tallied) (seen_of self.old.timed) (B.told self.old.book)) acts (named result) (told_of (mgr_view pass.new) (view_of self.new.tallied) (seen_of self.new.timed) (B.told self.new.book)) × IsStartingAt opening (P.Listener.told listener) acts result.stopped }
+        ensures own { AreOfCells (arc_value self.new.shared).times self.new.timed
+            (arc_value self.new.shared).cache self.new.cached
+            (arc_value self.new.shared).tally self.new.tallied }
+        ensures did { (acts : Acts)
+            × Did (told_of (mgr_view pass.old) (view_of self.old.tallied) (seen_of self.old.timed)
+            (B.told self.old.book)) acts (named result) (told_of (mgr_view pass.new)
+            (view_of self.new.tallied) (seen_of self.new.timed) (B.told self.new.book))
+            × IsStartingAt opening (P.Listener.told listener) acts result.stopped }
         ensures same { (self.new.shared ≡ self.old.shared) × (self.new.limit ≡ self.old.limit) }
-        ensures stays { HaveGrown (view_of self.old.cached) (view_of self.new.cached) (view_of self.old.tallied) (view_of self.new.tallied) × (P.meaning.polled self.new.poller ≡ P.meaning.polled self.old.poller) }
+        ensures stays { HaveGrown (view_of self.old.cached) (view_of self.new.cached)
+            (view_of self.old.tallied) (view_of self.new.tallied)
+            × (P.meaning.polled self.new.poller ≡ P.meaning.polled self.old.poller) }
         ensures one { NamesOne result }
         ensures faulted { HasFaulted result.stopped (P.meaning.faults self.new.poller).polls }
     {

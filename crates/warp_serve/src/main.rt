@@ -1,4 +1,5 @@
-//! The program `warp_serve`: makes the real link, files, clock and error stream, and hands them to the command.
+//! The program `warp_serve`: makes the real link, files, clock and error stream, and
+//! hands them to the command.
 //!
 //! Its promise is that of `warp_commands::run_connection`, over these very things.
 #![tactic(auto)]
@@ -14,20 +15,24 @@ use warp_commands::{Host, Status, refuse, run};
 fn main(rt: HostRuntime) -> ExitCode {
     let alloc = rt.alloc();
     let mut errors = StdSink::new(rt.stderr());
-    // The runtime is held by the front and by what it makes, whose types then name no lifetime.
+    // The runtime is held by what is made over it, whose types then name no lifetime.
     let Ok(rt) = Arc::new(alloc, rt) else {
         return ExitCode::from(refuse(&mut errors, Status::NoMemory));
     };
-    let Ok(held) = Arc::try_clone(&rt) else {
+    let (Ok(for_files), Ok(for_clock), Ok(for_front)) = (
+        Arc::try_clone(&rt),
+        Arc::try_clone(&rt),
+        Arc::try_clone(&rt),
+    ) else {
         return ExitCode::from(refuse(&mut errors, Status::NoMemory));
     };
     let mut host = Host {
         link: StdLink::new(rt.stdin(), rt.stdout()),
-        files: OsFiles::new(alloc, &*rt),
-        clock: OsClock::new(&*rt),
+        files: OsFiles::new(alloc, for_files),
+        clock: OsClock::new(for_clock),
         out: StdSink::new(rt.stdout()),
         errors,
-        front: SockFront::new(held, alloc),
+        front: SockFront::new(for_front, alloc),
         served: None,
         driven: None,
     };
@@ -38,7 +43,7 @@ fn main(rt: HostRuntime) -> ExitCode {
     ExitCode::from(code)
 }
 
-/// The words of the command line without the program's name. A word that is no text is no word of a command.
+/// The words of the command line without the program's name. An argument that isn't UTF-8 is a usage error.
 fn words_of(rt: &HostRuntime) -> Result<Vec<String>, Status> {
     let args = match env::args(rt) {
         Ok(args) => args,

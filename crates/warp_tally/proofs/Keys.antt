@@ -24,7 +24,8 @@ turned_eq x y = elim (cases_eq x y) [
 -- the set takes two openings for one exactly where they are the same
 pub same_key : (o p : Opening) → is_eq (key_cmp (o.number, o.fd) (p.number, p.fd)) ≡ same p o
 same_key o p = both_equal (nat_cmp o.number p.number) (nat_cmp o.fd p.fd)
-    ∙ (ap (λ (b : Bool). b && is_eq (nat_cmp o.fd p.fd)) (unsigned_tied o.number p.number ∙ turned_eq o.number p.number)
+    ∙ (ap (λ (b : Bool). b && is_eq (nat_cmp o.fd p.fd))
+    (unsigned_tied o.number p.number ∙ turned_eq o.number p.number)
     ∙ ap (λ (b : Bool). (p.number == o.number) && b) (unsigned_tied o.fd p.fd ∙ turned_eq o.fd p.fd))
 
 pub set_true : (b x : Bool) → cond b true x ≡ b || x

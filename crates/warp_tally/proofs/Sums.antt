@@ -1,7 +1,8 @@
 -- What a history of a tally adds up to.
-use Rattle.std.proofs.Common.{◌≡◌, ◌≢◌, ℕ, zero, suc, ◌+◌, ◌≤◌, ◌⊎◌, inl, inr, ⊎_elim, Bool, true, false, not, ◌&&◌, ◌||◌, List, [], ◌∷◌, ◌++◌, map, reverse, refl, sym, ap, ◌∙◌, arith}
-use Rattle.std.specs.Prelude.{Option, Some, ◌==◌}
-use Rattle.std.proofs.lemmas.Bool.{eq-eqb, eqb-true}
+use Rattle.std.proofs.Common.{◌≡◌, ◌≢◌, ℕ, zero, suc, ◌+◌, ◌≤◌, ◌⊎◌, inl, inr, ⊎_elim, Bool, true, false, not}
+use Rattle.std.proofs.Common.{◌&&◌, ◌||◌, List, [], ◌∷◌, ◌++◌, map, reverse, refl, sym, ap, ◌∙◌, arith}
+use Rattle.std.specs.Prelude.{Option, Some}
+use Rattle.std.proofs.lemmas.Bool.{eqb-true}
 use Rattle.std.proofs.lemmas.List.{reverse-append}
 use Rattle.reg_keys.specs.declared.opening.Opening.{Opening}
 use Rattle.reg_keys.specs.Tests.{same, one_if, total}
@@ -12,8 +13,11 @@ use Rattle.warp_tally.specs.declared.calls.Counted.TheVariants.{Yes, No, NoMemor
 use Rattle.warp_tally.specs.declared.calls.TallyReply.{TallyReply}
 use Rattle.warp_tally.specs.declared.calls.TallyEntry.{TallyEntry}
 use Rattle.turn_cell.specs.Weights.{weigh}
-use Rattle.warp_tally.specs.Tallies.{Totals, tally_past, is_open, open_after, first_of, totals_after, totals_of, yes_if, counts, IsTallyPast}
-use Rattle.warp_tally.specs.Accounts.{accepted_by, finished_by, turned_by, times, accepts, finishes, accepts_any, finishes_any, turns_away, finished_in, FollowsAccepts, ShowsCounts}
+use Rattle.warp_tally.specs.Tallies.{Totals, tally_past, is_open, open_after, first_of, totals_after}
+use Rattle.warp_tally.specs.Tallies.{totals_of, yes_if, counts, IsTallyPast}
+use Rattle.warp_tally.specs.Accounts.{accepted_by, finished_by, turned_by, times, accepts, finishes}
+use Rattle.warp_tally.specs.Accounts.{accepts_any, finishes_any, turns_away, finished_in, FollowsAccepts}
+use Rattle.warp_tally.specs.Accounts.{ShowsCounts}
 
 -- whether an entry counts is what its past calls for
 abbrev counted_is : (e : TallyEntry) (past : List TallyEntry) → IsTallyPast (e ∷ past)
@@ -29,7 +33,9 @@ one_more (Accept o) Yes t n = (omega arith, omega arith, omega arith)
 one_more (Accept o) No t n = (omega arith, omega arith, omega arith)
 one_more (Accept o) NoMemory t n = (omega arith, omega arith, omega arith)
 one_more TurnAway Yes t n = (omega arith, omega arith, omega arith)
-one_more TurnAway No t n = let z = n (λ (e : No ≡ Yes). cc) in (omega (arith, z), omega (arith, z), omega (arith, z))
+one_more TurnAway No t n =
+    let z = n (λ (e : No ≡ Yes). cc) in
+    (omega (arith, z), omega (arith, z), omega (arith, z))
 one_more TurnAway NoMemory t n = let z = n (λ (e : NoMemory ≡ Yes). cc) in
     (omega (arith, z), omega (arith, z), omega (arith, z))
 one_more (Finish o) Yes t n = (omega arith, omega arith, omega arith)
@@ -40,7 +46,8 @@ one_more (Stop c) No t n = (omega arith, omega arith, omega arith)
 one_more (Stop c) NoMemory t n = (omega arith, omega arith, omega arith)
 one_more Look b t n = (omega arith, omega arith, omega arith)
 
-turn_counts : (call : TallyCall) (room : Bool) (past : List TallyEntry) (b : Counted) → b ≡ counts room past call
+turn_counts : (call : TallyCall) (room : Bool) (past : List TallyEntry) (b : Counted)
+    → b ≡ counts room past call
     → b ≢ Yes → turned_by call ≡ 0
 turn_counts (Accept o) room past b e f = refl
 turn_counts TurnAway room past b e f = absurd (f e)
@@ -52,19 +59,27 @@ totals_are : (past : List TallyEntry) → IsTallyPast past → let t = totals_of
     (t.accepted ≡ total accepts_any past + total turns_away past) × (t.turned ≡ total turns_away past)
     × (t.finished ≡ total finishes_any past)
 totals_are [] l = (refl, refl, refl)
-totals_are (e ∷ past) l = let r = totals_are past l.1 in let c = counted_is e past l in
-    let o = one_more e.call e.reply.counted (totals_of past) (turn_counts e.call c.0 past e.reply.counted c.1) in
+totals_are (e ∷ past) l =
+    let r = totals_are past l.1 in
+    let c = counted_is e past l in
+    let o =
+    one_more e.call e.reply.counted (totals_of past) (turn_counts e.call c.0 past e.reply.counted c.1) in
     (omega (arith, r, o), omega (arith, r, o), omega (arith, r, o))
 
-pub shows_counts : (e : TallyEntry) (past : List TallyEntry) → IsTallyPast (e ∷ past) → ShowsCounts (e ∷ past) e.reply
-shows_counts e past l = let t = totals_are (e ∷ past) l in let c = counted_is e past l in
+pub shows_counts : (e : TallyEntry) (past : List TallyEntry) → IsTallyPast (e ∷ past)
+    → ShowsCounts (e ∷ past) e.reply
+shows_counts e past l =
+    let t = totals_are (e ∷ past) l in
+    let c = counted_is e past l in
     let same : totals_after e.call e.reply.counted (totals_of past)
     ≡ totals_after e.call (counts l.0.0 past e.call) (totals_of past) =
     ap (λ (b : Counted). totals_after e.call b (totals_of past)) c.1 in
     record {
-      accepted = ap (λ (r : TallyReply). r.accepted) l.0.1 ∙ (ap (λ (x : Totals). x.accepted) (sym same) ∙ t.0);
+      accepted =
+          ap (λ (r : TallyReply). r.accepted) l.0.1 ∙ (ap (λ (x : Totals). x.accepted) (sym same) ∙ t.0);
       turned = ap (λ (r : TallyReply). r.turned) l.0.1 ∙ (ap (λ (x : Totals). x.turned) (sym same) ∙ t.1);
-      finished = ap (λ (r : TallyReply). r.finished) l.0.1 ∙ (ap (λ (x : Totals). x.finished) (sym same) ∙ t.2);
+      finished =
+          ap (λ (r : TallyReply). r.finished) l.0.1 ∙ (ap (λ (x : Totals). x.finished) (sym same) ∙ t.2);
     }
 
 stop_stays : (call : TallyCall) (b : Counted) (t : Totals) (code : ℕ) → t.stop ≡ Some code
@@ -105,9 +120,6 @@ same_one o p e = let n = eqb-true o.number p.number (and_left _ _ e) in
     and_right' true b e = e
     and_right' false b e = let z : false ≡ true = e in cc
 
-same_self : (o : Opening) → same o o ≡ true
-same_self o = ap (λ (b : Bool). b && (o.fd == o.fd)) (eq-eqb o.number o.number refl) ∙ eq-eqb o.fd o.fd refl
-
 or_few : (a w : Bool) → one_if (a || w) ≤ one_if a + one_if w
 or_few true true = omega arith
 or_few true false = omega arith
@@ -120,8 +132,10 @@ out_few true false h = h
 out_few false true h = omega arith
 out_few false false h = omega arith
 
-open_one : (o : Opening) (call : TallyCall) (b : Counted) (was : Bool) → times o (finished_by call b) ≤ one_if was
-    → times o (finished_by call b) + one_if (open_after call b o was) ≤ times o (accepted_by call b) + one_if was
+open_one : (o : Opening) (call : TallyCall) (b : Counted) (was : Bool)
+    → times o (finished_by call b) ≤ one_if was
+    → times o (finished_by call b) + one_if (open_after call b o was)
+    ≤ times o (accepted_by call b) + one_if was
 open_one o (Accept p) Yes was h = let x = or_few (same o p) was in omega (arith, x)
 open_one o (Accept p) No was h = omega arith
 open_one o (Accept p) NoMemory was h = omega arith
@@ -159,8 +173,11 @@ was_open o Look b room past e = omega arith
 each_open : (o : Opening) (past : List TallyEntry) → IsTallyPast past
     → total (finishes o) past + one_if (is_open o past) ≤ total (accepts o) past
 each_open o [] l = omega arith
-each_open o (e ∷ past) l = let r = each_open o past l.1 in let c = counted_is e past l in
-    let x = open_one o e.call e.reply.counted (is_open o past) (was_open o e.call e.reply.counted c.0 past c.1) in
+each_open o (e ∷ past) l =
+    let r = each_open o past l.1 in
+    let c = counted_is e past l in
+    let x =
+    open_one o e.call e.reply.counted (is_open o past) (was_open o e.call e.reply.counted c.0 past c.1) in
     omega (arith, r, x)
 
 module _ {A : Type 0} where
@@ -190,8 +207,13 @@ more_apart : (p : Opening) (os : List Opening) → AreApart os → among p os �
 more_apart p os a z q = by_same (same p q) refl
   where
     by_same : (b : Bool) → same p q ≡ b → among q (p ∷ os) ≤ 1
-    by_same true e = let s = ap one_if e in let w = ap (λ x. among x os) (same_one p q e) in omega (arith, s, w, z)
-    by_same false e = let s = ap one_if e in let w = a q in omega (arith, s, w)
+    by_same true e =
+        let s = ap one_if e in
+        let w = ap (λ x. among x os) (same_one p q e) in
+        omega (arith, s, w, z)
+    by_same false e =
+        let s = ap one_if e in
+        let w = a q in omega (arith, s, w)
 
 abbrev Claim : List TallyEntry → List Opening → Type 0
 Claim past os = total (λ o. total (accepts o) past) os + total finishes_any past
@@ -267,8 +289,14 @@ module _ (e : TallyEntry) (past : List TallyEntry) (l : IsTallyPast (e ∷ past)
           omega (arith, r, x1, x2, x3, x4, x5, x6, z)
 
   claims_more : Claim (e ∷ past) os
-  claims_more = let r = again os a in let x1 = split_accepts in let x2 = split_finishes in ⊎_elim
-      (λ k. let k0 = k.0 in let k1 = k.1 in let k2 = k.2 in omega (arith, x1, x2, r, k0, k1, k2))
+  claims_more =
+      let r = again os a in
+      let x1 = split_accepts in
+      let x2 = split_finishes in ⊎_elim
+      (λ k.
+      let k0 = k.0 in
+      let k1 = k.1 in
+      let k2 = k.2 in omega (arith, x1, x2, r, k0, k1, k2))
       (λ k. finishes_one k.0 k.1 k.2) (entry_kind e.call e.reply.counted os a)
 
 claims : (past : List TallyEntry) → IsTallyPast past → (os : List Opening) → AreApart os → Claim past os
@@ -281,7 +309,8 @@ follows_accepts past l = record {
   together = λ o. let r = claims past l (o ∷ []) (one_apart o) in omega (arith, r);
 }
 
-pub closes_each : (past : List TallyEntry) → IsTallyPast past → total finishes_any past ≡ total accepts_any past
+pub closes_each : (past : List TallyEntry) → IsTallyPast past
+    → total finishes_any past ≡ total accepts_any past
     → (o : Opening) → total (finishes o) past ≡ total (accepts o) past
 closes_each past l e o = let f = follows_accepts past l in
     let a = f.each o in
@@ -300,12 +329,16 @@ finished_counted o (e ∷ es) = let r = finished_counted o es in
 
 total_reverse : {A : Type 0} (f : A → ℕ) (xs : List A) → total f (reverse xs) ≡ total f xs
 total_reverse f [] = refl
-total_reverse f (x ∷ xs) = let r = total_reverse f xs in let a = total_append f (reverse xs) (x ∷ []) in
+total_reverse f (x ∷ xs) =
+    let r = total_reverse f xs in
+    let a = total_append f (reverse xs) (x ∷ []) in
     ap (total f) (reverse-append (x ∷ []) xs) ∙ (a ∙ omega (arith, r))
 
-weigh_map : (f : TallyEntry → ℕ) (h : List (ℕ × TallyEntry)) → total f (map (λ e. e.1) h) ≡ weigh (λ e. f e.1) h
+weigh_map : (f : TallyEntry → ℕ) (h : List (ℕ × TallyEntry))
+    → total f (map (λ e. e.1) h) ≡ weigh (λ e. f e.1) h
 weigh_map f [] = refl
 weigh_map f (x ∷ xs) = let r = weigh_map f xs in omega (arith, r)
 
-pub past_weighs : (f : TallyEntry → ℕ) (h : List (ℕ × TallyEntry)) → total f (tally_past h) ≡ weigh (λ e. f e.1) h
+pub past_weighs : (f : TallyEntry → ℕ) (h : List (ℕ × TallyEntry))
+    → total f (tally_past h) ≡ weigh (λ e. f e.1) h
 past_weighs f h = total_reverse f (map (λ e. e.1) h) ∙ weigh_map f h

@@ -1,4 +1,5 @@
--- To be believed: what a history of calls on a tally adds up to, by weights of its entries, and what is promised of these sums.
+-- To be believed: what a history of calls on a tally adds up to, by weights of its entries, and
+-- what is promised of these sums.
 use Rattle.std.specs.Prelude.{◌≡◌, ℕ, ◌+◌, ◌≤◌, List, [], ◌∷◌, ◌++◌}
 use Rattle.reg_keys.specs.declared.opening.Opening.{Opening}
 use Rattle.reg_keys.specs.Tests.{same, one_if, total}
@@ -53,7 +54,8 @@ abbrev pub finished_in : List TallyEntry → List Opening
 finished_in [] = []
 finished_in (e ∷ es) = finished_by e.call e.reply.counted ++ finished_in es
 
--- Each finish has an accept before it, and of what is accepted and not finished an opening has no more than all together
+-- Each finish has an accept before it, and of what is accepted and not finished an
+-- opening has no more than all together
 pub record FollowsAccepts (past : List TallyEntry) : Type 0 where
   pub each : (o : Opening) → total (finishes o) past ≤ total (accepts o) past
   pub together : (o : Opening) → total (accepts o) past + total finishes_any past

@@ -1,5 +1,5 @@
 pub mod Tallies
 pub mod Accounts
 pub mod OpenSet
-pub mod TallyStands
+pub mod RepresentsTally
 pub mod Moves

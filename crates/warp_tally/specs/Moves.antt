@@ -8,7 +8,7 @@ use Rattle.warp_tally.specs.declared.calls.Counted.TheVariants.{Yes, No}
 use Rattle.warp_tally.specs.declared.tally.Tally.{Tally}
 use Rattle.warp_tally.specs.Tallies.{open_after, totals_after, is_unstopped, yes_if, yes_with}
 use Rattle.warp_tally.specs.OpenSet.{holds}
-use Rattle.warp_tally.specs.TallyStands.{totals_in}
+use Rattle.warp_tally.specs.RepresentsTally.{totals_in}
 
 -- whether a call counts, by what the tally holds
 abbrev pub counts_in : Bool → Tally → TallyCall → Counted

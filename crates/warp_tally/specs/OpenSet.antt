@@ -20,5 +20,5 @@ abbrev pub HasAdded : Opening → OpenSet → OpenSet → Type 0
 HasAdded o s t = (p : Opening) → holds t p ≡ same p o || holds s p
 
 -- the set doesn't hold this opening, and the others as before
-abbrev pub HasTaken : Opening → OpenSet → OpenSet → Type 0
-HasTaken o s t = (p : Opening) → holds t p ≡ not (same p o) && holds s p
+abbrev pub SetHasTaken : Opening → OpenSet → OpenSet → Type 0
+SetHasTaken o s t = (p : Opening) → holds t p ≡ not (same p o) && holds s p

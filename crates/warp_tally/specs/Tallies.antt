@@ -1,5 +1,7 @@
--- To be believed: what holds after a history of calls on a tally, and the reply that each call must have. The definitions read the history as a past: the list of its entries, the latest first.
-use Rattle.std.specs.Prelude.{◌≡◌, ℕ, ◌+◌, ◌&&◌, ◌||◌, not, Bool, true, false, List, [], ◌∷◌, map, reverse, Option, Some, None}
+-- To be believed: what holds after a history of calls on a tally, and the reply that each call must have. The
+-- definitions read the history as a past: the list of its entries, the latest first.
+use Rattle.std.specs.Prelude.{◌≡◌, ℕ, ◌+◌, ◌&&◌, ◌||◌, not, Bool, true, false, List, [], ◌∷◌, map, reverse}
+use Rattle.std.specs.Prelude.{Option, Some, None}
 use Rattle.reg_keys.specs.declared.opening.Opening.{Opening}
 use Rattle.reg_keys.specs.Tests.{same}
 use Rattle.warp_tally.specs.declared.calls.TallyCall.{TallyCall}
@@ -64,7 +66,8 @@ abbrev pub yes_with : Bool → Counted
 yes_with true = Yes
 yes_with false = NoMemory
 
--- Whether a call counts. An `Accept` does where there is memory for it, a `Finish` where its opening is accepted and not finished, a `Stop` where it is the first
+-- Whether a call counts. An `Accept` does where there is memory for it, a `Finish` where its opening is
+-- accepted and not finished, a `Stop` where it is the first
 abbrev pub counts : Bool → List TallyEntry → TallyCall → Counted
 counts room past (Accept o) = yes_with room
 counts room past TurnAway = Yes
@@ -75,7 +78,13 @@ counts room past Look = No
 -- a reply that shows these totals
 abbrev pub reply_with : Counted → Totals → TallyReply
 reply_with counted t =
-    record { counted = counted; accepted = t.accepted; turned = t.turned; finished = t.finished; stop = t.stop }
+    record {
+      counted = counted;
+      accepted = t.accepted;
+      turned = t.turned;
+      finished = t.finished;
+      stop = t.stop;
+    }
 
 -- the reply that a call must have after the past, with room for one opening more or without
 abbrev pub tally_reply : Bool → List TallyEntry → TallyCall → TallyReply

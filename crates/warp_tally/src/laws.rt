@@ -5,13 +5,13 @@ ghost use Rattle.reg_keys.specs.Tests.{total};
 ghost use Rattle.warp_tally.specs.declared.calls.TallyEntry.{TallyEntry};
 ghost use Rattle.warp_tally.specs.declared.tally.Tally.{Tally};
 ghost use Rattle.warp_tally.specs.Tallies.{IsTallyPast, tally_past, totals_of};
-ghost use Rattle.warp_tally.specs.TallyStands.{TallyStands};
+ghost use Rattle.warp_tally.specs.RepresentsTally.{RepresentsTally};
 ghost use Rattle.turn_cell.specs.Weights.{weigh};
 ghost use Rattle.warp_tally.specs.Accounts.{FollowsAccepts, ShowsCounts, accepts, finishes, accepts_any, finishes_any, finished_in, times};
 
 /// In the history that a tally stands for each reply is the one that its call must have.
 pub fn tallies_reply_rightly()
-    ensures { (past : List TallyEntry) (t : Tally) → TallyStands past t → IsTallyPast past }
+    ensures { (past : List TallyEntry) (t : Tally) → RepresentsTally past t → IsTallyPast past }
 {}
 
 /// A history and its past weigh the same, so sums over passes in a turn cell are sums over a past.

@@ -2,7 +2,7 @@
 ghost use Rattle.std.specs.Prelude.{◌≡◌, ◌||◌, ◌&&◌, not, Bool, false, OnOk, OnErr};
 ghost use Rattle.reg_keys.specs.declared.opening.Opening.{Opening};
 ghost use Rattle.reg_keys.specs.Tests.{same};
-ghost use Rattle.warp_tally.specs.OpenSet.{holds, HasAdded, HasTaken};
+ghost use Rattle.warp_tally.specs.OpenSet.{holds, HasAdded, SetHasTaken};
 
 use reg_keys::Opening;
 use std::alloc::{AllocError, Global};
@@ -38,7 +38,7 @@ impl OpenSet {
     /// Takes the opening out: whether it was there.
     pub(crate) fn take(&mut self, o: Opening) -> bool
         ensures was { result ≡ holds self.old o }
-        ensures taken { HasTaken o self.old self.new }
+        ensures taken { SetHasTaken o self.old self.new }
     {
         self.keys.remove(&(o.number, o.fd))
     }

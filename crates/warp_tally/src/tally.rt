@@ -2,7 +2,7 @@
 ghost use Rattle.std.specs.Prelude.{◌≡◌, [], ◌∷◌};
 ghost use Rattle.warp_tally.specs.declared.calls.TallyCall.TheVariants.{Accept, TurnAway, Finish, Stop};
 ghost use Rattle.warp_tally.specs.Tallies.{tally_past, reply_with};
-ghost use Rattle.warp_tally.specs.TallyStands.{TallyStands, totals_in};
+ghost use Rattle.warp_tally.specs.RepresentsTally.{RepresentsTally, totals_in};
 ghost use Rattle.warp_tally.specs.Moves.{HasMoved, HasRoom};
 
 use crate::calls::{Counted, TallyCall, TallyEntry, TallyReply};
@@ -25,7 +25,7 @@ pub struct Tally {
 impl Tally {
     /// Nothing was counted. It takes no memory.
     pub fn new(alloc: Global) -> Tally
-        ensures { TallyStands [] result }
+        ensures { RepresentsTally [] result }
     {
         Tally {
             open: OpenSet::new(alloc),
@@ -113,7 +113,7 @@ impl Part for Tally {
     type Entry = TallyEntry;
 
     // The tally stands for the entries alone, whatever their seats.
-    ghost stands = { λ t h. TallyStands (tally_past h) t };
+    ghost stands = { λ t h. RepresentsTally (tally_past h) t };
 
     ghost name = { λ _. [] };
 

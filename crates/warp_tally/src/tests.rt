@@ -1,7 +1,7 @@
 //! A tally in a turn cell: worked calls with their replies.
 ghost use Rattle.turn_cell.specs.Calls.{IsOf};
 
-use super::*;
+use crate::{Counted, Tally, TallyCall, TallyEntry, TallyReply};
 use reg_keys::Opening;
 use std::test::Fail;
 use turn_cell::{Pass, Tried, TurnCell};

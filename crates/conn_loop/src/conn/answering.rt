@@ -8,7 +8,7 @@ ghost use Rattle.conn_loop.specs.Moves.{Consults, Refuses, Responds, MakesHead, 
 ghost use Rattle.conn_loop.specs.Phases.{IsRefusal};
 ghost use Rattle.conn_loop.specs.Replying.{serving_over};
 ghost use Rattle.conn_loop.specs.Stages.{refusing, IsReadyStage};
-ghost use Rattle.conn_loop.specs.Standing.{AsksFor};
+ghost use Rattle.conn_loop.specs.ConnState.{AsksFor};
 ghost use Rattle.conn_loop.specs.Steps.{ComesFor, Goes, HasWay, Proceeds, CanSend, SendableMove, to_go};
 
 use super::Conn;
@@ -23,6 +23,7 @@ use warp_response::{Content, LastWord, Response, head_bytes, refusal};
 
 impl<F: Files> Conn<F> {
     /// Answers a whole request, but for the content of its file, or asks for the look that its answer needs.
+    #[inline(always)]
     pub(super) fn respond<L: Link, A: App, C: Clock>(
         &mut self,
         link: &mut L,
@@ -53,6 +54,7 @@ impl<F: Files> Conn<F> {
     }
 
     /// What the application does with the request that is whole.
+    #[inline(always)]
     fn consult<A: App>(&mut self, app: &A) -> Move
         requires some { 0 < self.old.left }
         requires ready { IsReadyStage self.old.stage }
@@ -75,13 +77,15 @@ impl<F: Files> Conn<F> {
         next
     }
 
-    /// Makes the head of the answer to the request that is whole, at the moment that the clock gives. The content follows
-    /// part by part.
+    /// Makes the head of the answer to the request that is whole, at the moment that the clock gives.
+    /// The content follows part by part.
+    #[inline(always)]
     fn answer<C: Clock>(&mut self, clock: &mut C, scratch: &mut Scratch, response: &Response)
         requires room { HasWay self.old }
         requires some { 0 < self.old.left }
         requires sendable { CanSend response.now self.old.stage }
-        ensures { (moment : ℕ) × Responds response.now moment self.old self.new × Gives (moment ∷ []) (C.told clock.old) (C.told clock.new) }
+        ensures { (moment : ℕ) × Responds response.now moment self.old self.new
+            × Gives (moment ∷ []) (C.told clock.old) (C.told clock.new) }
     {
         let Phase::Ready { head, behind, seen } = self.phase else {
             unreachable!()
@@ -111,7 +115,8 @@ impl<F: Files> Conn<F> {
         requires some { 0 < self.old.left }
         requires phrase { IsRefusal code }
         requires refusing { self.old.stage ≡ refusing code }
-        ensures { (moment : ℕ) × Refuses code moment self.old self.new × Gives (moment ∷ []) (C.told clock.old) (C.told clock.new) }
+        ensures { (moment : ℕ) × Refuses code moment self.old self.new
+            × Gives (moment ∷ []) (C.told clock.old) (C.told clock.new) }
     {
         let moment = clock.now();
         let response = refusal(code);
@@ -146,10 +151,12 @@ fn sending_of(size: u64, send: bool) -> Phase
 }
 
 /// What the application does with a request once this was seen.
+#[inline(always)]
 fn next_move<A: App>(app: &A, request: &Request<'_>, seen: Seen, path: &mut PathBuf8) -> Move
     requires short { length request.now.target.now ≤ 8192 }
     requires kept { PathKept (A.moves app.now (text_of request.now)) seen path.old }
-    ensures is { move_shown request.now.target.now result path.new ≡ A.moves app.now (text_of request.now) seen }
+    ensures is { move_shown request.now.target.now result path.new
+        ≡ A.moves app.now (text_of request.now) seen }
     ensures fits { FitsMove request.now.target.now seen result }
     ensures sendable { SendableMove request.now.target.now result }
 {

@@ -3,7 +3,7 @@ ghost use Rattle.std.specs.Prelude.{◌≡◌, ◌⊎◌, ◌<◌, ◌≤◌, �
 ghost use Rattle.outside.specs.Causes.{LinkTold};
 ghost use Rattle.fd_cache.specs.Calls.{entry_held, entry_of};
 ghost use Rattle.app_trait.specs.Moves.{EndsWithTwo, Moves};
-ghost use Rattle.conn_loop.specs.Standing.{Represents, HoldsNothing, IsAsking, path_asked};
+ghost use Rattle.conn_loop.specs.ConnState.{Represents, HoldsNothing, IsAsking, path_asked};
 ghost use Rattle.conn_loop.specs.Stages.{needs_file};
 ghost use Rattle.conn_loop.specs.Phases.{stage_in};
 ghost use Rattle.conn_loop.specs.Moves.{FailsTo, SeesNext};
@@ -19,7 +19,8 @@ use fd_cache::Lease;
 use outside::Files;
 
 impl<F: Files> Conn<F> {
-    /// The path that is looked for. The caller owes that the last answer was `WantFile` and that nothing was supplied since.
+    /// The path that is looked for. The caller owes that the last answer was `WantFile` and
+    /// that nothing was supplied since.
     pub fn wanted(&self) -> &str
         requires { IsAsking self.now }
         ensures { result.now ≡ path_asked self.now }
@@ -27,16 +28,20 @@ impl<F: Files> Conn<F> {
         self.path.text()
     }
 
-    /// Takes what was found at the path that is looked for. The caller owes that a file is wanted and that the lease that was
-    /// spent, if there was one, was taken back; and where the folder is told, that the file of a lease has the wanted path,
-    /// and that an absent file is absent there.
+    /// Takes what was found at the path that is looked for. The caller owes that a file is wanted and that
+    /// the lease that was spent, if there was one, was taken back; and where the folder is told, that the
+    /// file of a lease has the wanted path, and that an absent file is absent there.
+    #[inline(always)]
     pub fn supply(&mut self, got: Supply<Lease<F>>)
         requires asking { IsAsking self.old }
         requires none_spent { self.old.lease ≡ None }
         requires there { Supplies F.folder (λ lease. F.file_path lease.file) (path_asked self.old) got }
-        ensures represents { (moves : Moves) (link : LinkTold) → EndsWithTwo moves → Represents moves F.folder self.old link → Represents moves F.folder self.new link }
-        ensures same { self.new ≡ record self.old { stage = self.new.stage; lease = self.new.lease; entry = self.new.entry } }
-        ensures holds { Holds (λ lease. F.file_path lease.file) (λ lease. entry_of lease) got self.new × ¬ IsAsking self.new }
+        ensures represents { (moves : Moves) (link : LinkTold) → EndsWithTwo moves
+            → Represents moves F.folder self.old link → Represents moves F.folder self.new link }
+        ensures same { self.new
+            ≡ record self.old { stage = self.new.stage; lease = self.new.lease; entry = self.new.entry } }
+        ensures holds { Holds (λ lease. F.file_path lease.file) (λ lease. entry_of lease) got self.new
+            × ¬ IsAsking self.new }
         ensures nearer { to_go self.new < to_go self.old }
     {
         match got {
@@ -51,7 +56,8 @@ impl<F: Files> Conn<F> {
     fn found(&mut self, lease: Lease<F>)
         requires asking { IsAsking self.old }
         requires none_spent { self.old.lease ≡ None }
-        ensures { SeesNext (Some (lease.size, lease.mtime)) (Some (F.file_path lease.file)) (entry_of lease) self.old self.new }
+        ensures { SeesNext (Some (lease.size, lease.mtime)) (Some (F.file_path lease.file))
+            (entry_of lease) self.old self.new }
     {
         let Phase::Wanting { head, behind, seen } = self.phase else {
             unreachable!()
@@ -98,9 +104,11 @@ impl<F: Files> Conn<F> {
 
     /// Gives a lease that isn't needed any more. The caller asks after each `advance`.
     pub fn spent_lease(&mut self) -> Option<Lease<F>>
-        ensures represents { (moves : Moves) (link : LinkTold) → Represents moves F.folder self.old link → Represents moves F.folder self.new link }
+        ensures represents { (moves : Moves) (link : LinkTold) → Represents moves F.folder self.old link
+            → Represents moves F.folder self.new link }
         ensures same { self.new ≡ record self.old { lease = self.new.lease; entry = self.new.entry } }
-        ensures given { GivesLease (option_map (λ lease. F.file_path lease.file) result) (entry_held result) self.old self.new }
+        ensures given { GivesLease (option_map (λ lease. F.file_path lease.file) result)
+            (entry_held result) self.old self.new }
     {
         if needs_lease(&self.phase) {
             None

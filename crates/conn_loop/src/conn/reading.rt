@@ -10,7 +10,7 @@ ghost use Rattle.conn_loop.specs.Phases.{AheadOf, HasHead};
 ghost use Rattle.conn_loop.specs.Replying.{Serving};
 ghost use Rattle.conn_loop.specs.Stages.{unread, IsBetween, IsReadUp, IsWanting};
 ghost use Rattle.app_trait.specs.Moves.{Moves};
-ghost use Rattle.conn_loop.specs.Standing.{AsksFor};
+ghost use Rattle.conn_loop.specs.ConnState.{AsksFor};
 ghost use Rattle.conn_loop.specs.Steps.{ComesFor, Goes, IsPlain, stage_after, to_go};
 
 use super::Conn;
@@ -25,9 +25,11 @@ use warp_response::interim;
 
 impl<F: Files> Conn<F> {
     /// What is ahead. A body is read on where it was left.
+    #[inline(always)]
     pub(super) fn look(&mut self) -> Ahead
         requires plain { IsPlain self.old.stage }
-        ensures stands { (serving : Option Serving) (link : LinkTold) → ComesFor None serving self.old link → ComesFor None serving self.new link }
+        ensures stands { (serving : Option Serving) (link : LinkTold) → ComesFor None serving self.old link
+            → ComesFor None serving self.new link }
         ensures is { AheadOf result self.new.stage self.new.input }
         ensures asks { (moves : Moves) → AsksFor moves self.old.stage → AsksFor moves self.new.stage }
         ensures nearer { to_go self.new ≤ to_go self.old }
@@ -38,9 +40,11 @@ impl<F: Files> Conn<F> {
     }
 
     /// Reads on in the body that is read, if one is.
+    #[inline(always)]
     fn read_body(&mut self)
         requires plain { IsPlain self.old.stage }
-        ensures stands { (serving : Option Serving) (link : LinkTold) → ComesFor None serving self.old link → ComesFor None serving self.new link }
+        ensures stands { (serving : Option Serving) (link : LinkTold) → ComesFor None serving self.old link
+            → ComesFor None serving self.new link }
         ensures read { IsReadUp self.new.stage self.new.input }
         ensures plain { IsPlain self.new.stage }
         ensures asks { (moves : Moves) → AsksFor moves self.old.stage → AsksFor moves self.new.stage }
@@ -59,6 +63,7 @@ impl<F: Files> Conn<F> {
     }
 
     /// What is ahead where all of a body that came was read.
+    #[inline(always)]
     fn ahead(&self) -> Ahead
         requires plain { IsPlain self.now.stage }
         requires read { IsReadUp self.now.stage self.now.input }
@@ -75,14 +80,17 @@ impl<F: Files> Conn<F> {
     }
 
     /// Judges what the input begins with.
+    #[inline(always)]
     pub(super) fn judge(&mut self, scratch: &mut Scratch)
         requires room { length self.old.pending < 16384 }
         requires some { 0 < self.old.left }
         requires unread { self.old.stage ≡ unread }
-        ensures stands { (serving : Option Serving) (link : LinkTold) → ComesFor None serving self.old link → ComesFor None serving self.new link }
+        ensures stands { (serving : Option Serving) (link : LinkTold) → ComesFor None serving self.old link
+            → ComesFor None serving self.new link }
         ensures plain { IsPlain self.new.stage × ((moves : Moves) → AsksFor moves self.new.stage) }
         ensures nearer { to_go self.new < to_go self.old }
-        ensures same { self.new ≡ record self.old { input = self.new.input; stage = self.new.stage; pending = self.new.pending } }
+        ensures same { self.new
+            ≡ record self.old { input = self.new.input; stage = self.new.stage; pending = self.new.pending } }
     {
         match next(self.input.bytes(), &mut scratch.fields) {
             Next::More => self.phase = Phase::Waits,
@@ -92,16 +100,19 @@ impl<F: Files> Conn<F> {
     }
 
     /// A head is whole: its client gets the interim answer that it waits for, and its body is read.
+    #[inline(always)]
     fn begin(&mut self, head: HeadInfo)
         requires room { length self.old.pending < 16384 }
         requires some { 0 < self.old.left }
         requires unread { self.old.stage ≡ unread }
         requires inside { HasHead self.old.input head }
         requires asks { (t : List ℕ) → next_of (self.old.input ++ t) ≡ asked (asked_in self.old.input head) }
-        ensures stands { (serving : Option Serving) (link : LinkTold) → ComesFor None serving self.old link → ComesFor None serving self.new link }
+        ensures stands { (serving : Option Serving) (link : LinkTold) → ComesFor None serving self.old link
+            → ComesFor None serving self.new link }
         ensures plain { IsPlain self.new.stage × ((moves : Moves) → AsksFor moves self.new.stage) }
         ensures nearer { to_go self.new < to_go self.old }
-        ensures same { self.new ≡ record self.old { input = self.new.input; stage = self.new.stage; pending = self.new.pending } }
+        ensures same { self.new
+            ≡ record self.old { input = self.new.input; stage = self.new.stage; pending = self.new.pending } }
     {
         if head.interim {
             self.output.add(interim());
@@ -111,13 +122,21 @@ impl<F: Files> Conn<F> {
     }
 
     /// Writes what was made, and reads more bytes. `None` comes where some came.
+    #[inline(always)]
     pub(super) fn read_more<L: Link>(&mut self, link: &mut L) -> Option<Step>
         requires some { 0 < self.old.left }
         requires wanting { IsWanting self.old.stage self.old.input }
-        ensures stands { (serving : Option Serving) → ComesFor None serving self.old (L.told link.old) → ComesFor result serving self.new (L.told link.new) }
+        ensures stands { (serving : Option Serving) → ComesFor None serving self.old (L.told link.old)
+            → ComesFor result serving self.new (L.told link.new) }
         ensures plain { IsPlain self.new.stage × ((moves : Moves) → AsksFor moves self.new.stage) }
         ensures nearer { (to_go self.new ≤ to_go self.old) × IfNone result (to_go self.new < to_go self.old) }
-        ensures same { self.new ≡ record self.old { input = self.new.input; stage = self.new.stage; pending = self.new.pending; bytes = self.new.bytes; waits = self.new.waits } }
+        ensures same { self.new ≡ record self.old {
+          input = self.new.input;
+          stage = self.new.stage;
+          pending = self.new.pending;
+          bytes = self.new.bytes;
+          waits = self.new.waits;
+        } }
         ensures goes { Goes result self.old self.new (L.told link.old) (L.told link.new) }
     {
         if let Some(step) = self.write_due(link) {
@@ -132,12 +151,18 @@ impl<F: Files> Conn<F> {
         }
     }
 
-    /// Reads bytes behind the input. Nothing is asked for before all that was made is written: a client may wait for it.
+    /// Reads bytes after the input. Nothing is asked for before all that was made is
+    /// written: a client may wait for it.
+    #[inline(always)]
     fn fill<L: Link>(&mut self, link: &mut L) -> ReadOut
         requires written { self.old.pending ≡ [] }
         requires wanting { IsWanting self.old.stage self.old.input }
         ensures takes { Takes result self.old.input self.new.input (L.told link.old) (L.told link.new) }
-        ensures same { self.new ≡ record self.old { input = self.new.input; stage = stage_after result self.old.stage; waits = waits_read result self.old.waits } }
+        ensures same { self.new ≡ record self.old {
+          input = self.new.input;
+          stage = stage_after result self.old.stage;
+          waits = waits_read result self.old.waits;
+        } }
     {
         let out = self.input.fill(link);
         self.phase.read(out);

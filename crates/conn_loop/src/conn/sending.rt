@@ -1,4 +1,5 @@
-//! How a connection sends the content of a file: a part is read behind what was made, and written before more is read.
+//! How a connection sends the content of a file: a part is read after what was made, and
+//! written before more is read.
 ghost use Rattle.std.specs.Prelude.{◌≡◌, ◌≤◌, ◌<◌, ◌⊎◌, [], Option, Some, None, IfNone, length};
 ghost use Rattle.app_trait.specs.Moves.{Moves};
 ghost use Rattle.conn_loop.specs.Moves.{HasRead, IsPartWithin, ReadsPart};
@@ -14,14 +15,22 @@ use outside::{Files, Link, PartOut};
 
 impl<F: Files> Conn<F> {
     /// Reads the next part of the content. What was read of it before is written first.
+    #[inline(always)]
     pub(super) fn send_part<L: Link>(&mut self, link: &mut L, files: &mut F) -> Option<Step>
         requires sends { IsSendingStage self.old.stage }
-        ensures stands { (moves : Moves) → ComesFor None (serving_over moves F.folder) self.old (L.told link.old)
+        ensures stands { (moves : Moves)
+            → ComesFor None (serving_over moves F.folder) self.old (L.told link.old)
             → ComesFor result (serving_over moves F.folder) self.new (L.told link.new) }
-        ensures same { self.new ≡ record self.old { stage = self.new.stage; pending = self.new.pending; bytes = self.new.bytes; waits = self.new.waits } }
+        ensures same { self.new ≡ record self.old {
+          stage = self.new.stage;
+          pending = self.new.pending;
+          bytes = self.new.bytes;
+          waits = self.new.waits;
+        } }
         ensures stage { IsSendingOut self.new.stage }
         ensures nearer { (to_go self.new ≤ to_go self.old) × IfNone result (to_go self.new < to_go self.old) }
-        ensures goes { GoesOver result self.old self.new (L.told link.old) (L.told link.new) (F.told files.old) (F.told files.new) }
+        ensures goes { GoesOver result self.old self.new (L.told link.old) (L.told link.new)
+            (F.told files.old) (F.told files.new) }
     {
         if let Some(step) = self.make_way_for_part(link) {
             return Some(step);
@@ -30,12 +39,15 @@ impl<F: Files> Conn<F> {
         None
     }
 
-    /// Writes what was read of the content before. The first part follows the head, where there is room for it.
+    /// Writes what was read of the content before. The first part follows the head,
+    /// where there is room for it.
     fn make_way_for_part<L: Link>(&mut self, link: &mut L) -> Option<Step>
         requires sends { IsSendingStage self.old.stage }
-        ensures stands { (serving : Option Serving) → ComesFor None serving self.old (L.told link.old) → ComesFor result serving self.new (L.told link.new) }
+        ensures stands { (serving : Option Serving) → ComesFor None serving self.old (L.told link.old)
+            → ComesFor result serving self.new (L.told link.new) }
         ensures room { IfNone result (length self.new.pending < 16384) }
-        ensures same { self.new ≡ record self.old { pending = self.new.pending; bytes = self.new.bytes; waits = self.new.waits } }
+        ensures same { self.new
+            ≡ record self.old { pending = self.new.pending; bytes = self.new.bytes; waits = self.new.waits } }
         ensures goes { Goes result self.old self.new (L.told link.old) (L.told link.new) }
     {
         match self.phase {
@@ -44,7 +56,8 @@ impl<F: Files> Conn<F> {
         }
     }
 
-    /// Reads a part of the content behind what was made.
+    /// Reads a part of the content after what was made.
+    #[inline(always)]
     fn read_part(&mut self, files: &mut F)
         requires sends { IsSendingStage self.old.stage }
         requires room { length self.old.pending < 16384 }

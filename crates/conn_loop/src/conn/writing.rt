@@ -3,7 +3,7 @@ ghost use Rattle.std.specs.Prelude.{◌≡◌, ◌≤◌, ◌<◌, [], Option, S
 ghost use Rattle.conn_loop.specs.Moves.{Sends, waits_after};
 ghost use Rattle.conn_loop.specs.Replying.{Serving};
 ghost use Rattle.conn_loop.specs.Stages.{IsReadyStage};
-ghost use Rattle.conn_loop.specs.Standing.{IsAsking};
+ghost use Rattle.conn_loop.specs.ConnState.{IsAsking};
 ghost use Rattle.conn_loop.specs.Steps.{ComesFor, Goes, HasTarget, HasWay, MayEnd, EndsWith};
 
 use super::Conn;
@@ -18,8 +18,10 @@ impl<F: Files> Conn<F> {
     pub(super) fn end<L: Link>(&mut self, link: &mut L, end: End) -> Step
         requires may { MayEnd end self.old }
         requires quiet { ¬ IsAsking self.old }
-        ensures stands { (serving : Option Serving) → ComesFor None serving self.old (L.told link.old) → ComesFor (Some result) serving self.new (L.told link.new) }
-        ensures same { self.new ≡ record self.old { pending = self.new.pending; bytes = self.new.bytes; waits = self.new.waits } }
+        ensures stands { (serving : Option Serving) → ComesFor None serving self.old (L.told link.old)
+            → ComesFor (Some result) serving self.new (L.told link.new) }
+        ensures same { self.new
+            ≡ record self.old { pending = self.new.pending; bytes = self.new.bytes; waits = self.new.waits } }
         ensures goes { EndsWith end result self.old self.new (L.told link.old) (L.told link.new) }
     {
         match self.write_due(link) {
@@ -30,9 +32,11 @@ impl<F: Files> Conn<F> {
 
     /// Writes what was made, where it must leave before another answer is begun. `None` comes where one may.
     pub(super) fn make_room<L: Link>(&mut self, link: &mut L) -> Option<Step>
-        ensures stands { (serving : Option Serving) → ComesFor None serving self.old (L.told link.old) → ComesFor result serving self.new (L.told link.new) }
+        ensures stands { (serving : Option Serving) → ComesFor None serving self.old (L.told link.old)
+            → ComesFor result serving self.new (L.told link.new) }
         ensures room { IfNone result (length self.new.pending < 16384) }
-        ensures same { self.new ≡ record self.old { pending = self.new.pending; bytes = self.new.bytes; waits = self.new.waits } }
+        ensures same { self.new
+            ≡ record self.old { pending = self.new.pending; bytes = self.new.bytes; waits = self.new.waits } }
         ensures goes { Goes result self.old self.new (L.told link.old) (L.told link.new) }
     {
         if self.output.bytes().len() < PIECE {
@@ -42,13 +46,15 @@ impl<F: Files> Conn<F> {
         }
     }
 
-    /// Writes what was made, where the head of the answer to the request that is whole might not fit behind it: a head with
-    /// a Location repeats at most two spans of the target.
+    /// Writes what was made, where the head of the answer to the request that is whole might not fit after
+    /// it: a head with a Location repeats at most two spans of the target.
     pub(super) fn make_way<L: Link>(&mut self, link: &mut L) -> Option<Step>
         requires ready { IsReadyStage self.old.stage }
-        ensures stands { (serving : Option Serving) → ComesFor None serving self.old (L.told link.old) → ComesFor result serving self.new (L.told link.new) }
+        ensures stands { (serving : Option Serving) → ComesFor None serving self.old (L.told link.old)
+            → ComesFor result serving self.new (L.told link.new) }
         ensures room { IfNone result (HasWay self.new) }
-        ensures same { self.new ≡ record self.old { pending = self.new.pending; bytes = self.new.bytes; waits = self.new.waits } }
+        ensures same { self.new
+            ≡ record self.old { pending = self.new.pending; bytes = self.new.bytes; waits = self.new.waits } }
         ensures goes { Goes result self.old self.new (L.told link.old) (L.told link.new) }
     {
         if self.output.bytes().len() + HEAD_ROOM + 2 * self.target_len() <= ROOM {
@@ -72,9 +78,11 @@ impl<F: Files> Conn<F> {
 
     /// Writes what was made. `None` comes where all of it is written.
     pub(super) fn write_due<L: Link>(&mut self, link: &mut L) -> Option<Step>
-        ensures stands { (serving : Option Serving) → ComesFor None serving self.old (L.told link.old) → ComesFor result serving self.new (L.told link.new) }
+        ensures stands { (serving : Option Serving) → ComesFor None serving self.old (L.told link.old)
+            → ComesFor result serving self.new (L.told link.new) }
         ensures done { IfNone result (self.new.pending ≡ []) }
-        ensures same { self.new ≡ record self.old { pending = self.new.pending; bytes = self.new.bytes; waits = self.new.waits } }
+        ensures same { self.new
+            ≡ record self.old { pending = self.new.pending; bytes = self.new.bytes; waits = self.new.waits } }
         ensures goes { Goes result self.old self.new (L.told link.old) (L.told link.new) }
     {
         match self.flush(link) {

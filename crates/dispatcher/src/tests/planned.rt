@@ -37,7 +37,11 @@ impl Poller for Planned {
 
     type Listener = MemListener;
 
-    ghost meaning = { record { faults = λ p. record { links = 0; polls = p.faults.n }; polled = λ _. None; polls = λ old idle result out new. old.faults.n ≤ new.faults.n } };
+    ghost meaning = { record {
+      faults = λ p. record { links = 0; polls = p.faults.n };
+      polled = λ _. None;
+      polls = λ old idle result out new. old.faults.n ≤ new.faults.n;
+    } };
 
     fn add(&mut self, _opening: Opening, _link: &mut MemLink) -> AddOut {
         AddOut::Added
@@ -112,7 +116,8 @@ impl<T: Load> Runner<T> for Keeper {
         ensures made { RunMade (mgr_view _pass.old) result (mgr_view _pass.new) }
         ensures flag { GivesNoEvents result }
         ensures stop { self.new.stopped ≡ code_of result }
-        ensures runs { Gains (option_map (λ v. v.items) self.old.runs) (option_map (λ v. v.items) self.new.runs) (fired.old.key ∷ []) }
+        ensures runs { Gains (option_map (λ v. v.items) self.old.runs)
+            (option_map (λ v. v.items) self.new.runs) (fired.old.key ∷ []) }
         ensures shuts { self.new.shuts ≡ self.old.shuts }
         ensures poller { self.new.poller ≡ self.old.poller }
     {

@@ -175,7 +175,7 @@ fn plan_both<R: Wait>(rt: &R, bench: &mut Bench, keeper: &mut Keeper) -> Result<
     Ok((first, second))
 }
 
-/// The same for so many descriptors.
+/// The same for this many descriptors.
 fn plan_many<R: Wait>(
     rt: &R,
     bench: &mut Bench,

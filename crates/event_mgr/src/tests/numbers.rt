@@ -1,5 +1,5 @@
-// The numbers in a cell of their own: their order, their end, and random-like calls that are answered
-// as the plain body answers them.
+//! The numbers in a cell of their own: their order, their end, and random-like calls that are answered
+//! as the plain body answers them.
 ghost use Rattle.turn_cell.specs.Calls.{IsOf};
 
 use super::plain_numbers::plain_reply;

@@ -1,5 +1,5 @@
-// The reply to a call on the numbers, computed from the whole history: plain, slow, and tested against
-// the part.
+//! The reply to a call on the numbers, computed from the whole history: plain, slow, and tested against
+//! the part.
 ghost use Rattle.std.specs.Prelude.{◌≡◌, ℕ, List, reverse};
 ghost use Rattle.event_mgr.specs.Numbers.{is_among, out_after, numbers_out, number_reply};
 ghost use Rattle.event_mgr.specs.declared.numbers.NumbersCall.TheVariants.{Draw};
@@ -8,7 +8,7 @@ use crate::numbers::{NumbersCall, NumbersEntry, NumbersReply};
 use reg_keys::DESCRIPTORS;
 
 /// The reply that a call must have after a history, which is listed with its latest entry last.
-pub fn plain_reply(history: &[NumbersEntry], call: NumbersCall) -> NumbersReply
+pub(crate) fn plain_reply(history: &[NumbersEntry], call: NumbersCall) -> NumbersReply
     ensures { result ≡ number_reply (reverse history.now) call }
 {
     match call {
@@ -45,9 +45,10 @@ fn is_out(history: &[NumbersEntry], number: u16) -> bool
     out
 }
 
-// Whether the number is out after one more entry.
+/// Whether the number is out after one more entry.
 fn is_out_after(entry: &NumbersEntry, number: u16, out: bool) -> bool
-    ensures { (ms : List ℕ) → out ≡ is_among ms number → result ≡ is_among (out_after entry.now.call entry.now.reply ms) number }
+    ensures { (ms : List ℕ) → out ≡ is_among ms number
+        → result ≡ is_among (out_after entry.now.call entry.now.reply ms) number }
 {
     match (entry.call, entry.reply) {
         (NumbersCall::Draw, NumbersReply::Drawn(drawn)) => drawn == number || out,

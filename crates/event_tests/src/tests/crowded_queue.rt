@@ -64,7 +64,7 @@ fn register<R: Wait>(
     }
 }
 
-/// Accepts so many links and registers a job for each. It answers the links, which leave their poller when
+/// Accepts this many links and registers a job for each. It answers the links, which leave their poller when
 /// they are dropped, and the numbers of the keys.
 fn register_all<R: Wait>(
     rt: &R,

@@ -137,7 +137,7 @@ fn times(finishes: &[Finish], opening: Opening) -> u64 {
     count
 }
 
-/// Begins so many connections, with the two pollers in turn.
+/// Begins this many connections, with the two pollers in turn.
 fn begin_all<R: Wait>(
     rt: &R,
     alloc: Global,
@@ -191,7 +191,7 @@ fn book(alloc: Global) -> Result<Book, AllocError>
     Book::new(alloc, LINKS + 1, 1024)
 }
 
-/// Puts a row behind the others.
+/// Puts a row after the others.
 fn push_row(
     mgr: &EventManager<Job>,
     queue: &ReadyQueue,
@@ -200,7 +200,8 @@ fn push_row(
 ) -> Result<(), AllocError>
     requires rows { All (λ row. ServesRow mgr.now queue.now row.pass row.kit.book) rows.old.items }
     requires row { ServesRow mgr.now queue.now row.pass row.kit.book }
-    ensures { IfOk result (λ _. All (λ row. ServesRow mgr.now queue.now row.pass row.kit.book) rows.new.items) }
+    ensures { IfOk result
+        (λ _. All (λ row. ServesRow mgr.now queue.now row.pass row.kit.book) rows.new.items) }
 {
     // Lets the contract speak of the two.
     let _mgr = mgr;

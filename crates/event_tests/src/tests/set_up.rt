@@ -13,7 +13,7 @@ use std::alloc::{AllocError, Global};
 use std::sync::Wait;
 use std::test::Fail;
 
-/// A step that brings these bytes, and allows so many to be written.
+/// A step that brings these bytes, and allows this many to be written.
 pub(crate) fn step(alloc: Global, piece: &[u8], allowance: u32) -> Result<ScriptStep, AllocError> {
     Ok(ScriptStep {
         piece: Vec::from_slice(alloc, piece)?,
@@ -30,7 +30,7 @@ pub(crate) fn worked_script(alloc: Global) -> Result<Vec<Script>, AllocError>
     Ok(vec![in alloc; Script { steps, room: 100 }]?)
 }
 
-/// Opens the least descriptor.
+/// Opens the lowest free descriptor.
 pub(crate) fn open<R: Wait>(
     rt: &R,
     mgr: &EventManager<Job>,

@@ -1,4 +1,4 @@
-// The adapters over readers, writers, files and clocks that fail where a test wants them to.
+//! The adapters over readers, writers, files and clocks that fail where a test wants them to.
 use crate::retry::read_once_at;
 use crate::{
     Clock, Files, FindOut, Link, OsClock, OsFiles, PartOut, ReadOut, RootOut, Sink, SinkOut,
@@ -8,6 +8,7 @@ use std::cell::Cell;
 use std::io::{Error, ErrorKind, Read, Write};
 use std::os::fd::AsRawFd;
 use std::os::unix::fs::{FileExt, symlink};
+use std::sync::Arc;
 use std::test::Fail;
 use std::time::Duration;
 use std::{fs, io, rt};
@@ -92,15 +93,15 @@ impl rt::Clock for Watch {
 }
 
 #[test]
-fn the_system_clock_repeats_its_last_moment_where_it_fails(rt: HostRuntime) {
-    let watch = Watch {
-        second: Cell::new(None),
-    };
-    let mut clock = OsClock::new(&watch);
+fn the_system_clock_repeats_its_last_moment_where_it_fails(rt: HostRuntime) -> Result<(), Fail> {
+    let second = Cell::new(None);
+    let watch = Arc::new(rt.alloc(), Watch { second })?;
+    let mut clock = OsClock::new(Arc::try_clone(&watch)?);
     for (second, moment) in [(None, 0), (Some(784111777), 784111777), (None, 784111777)] {
         watch.second.set(second);
         assert_eq!(rt; clock.now(), moment);
     }
+    Ok(())
 }
 
 #[test]
@@ -108,7 +109,7 @@ fn the_system_files_are_found_below_the_root(rt: HostRuntime) -> Result<(), Fail
     let site = "site_of_the_files_test";
     fs::create_dir_all(&rt, "site_of_the_files_test/sub")?;
     fs::write(&rt, "site_of_the_files_test/a.txt", b"hello".as_slice())?;
-    let mut files = OsFiles::new(rt.alloc(), &rt);
+    let mut files = OsFiles::new(rt.alloc(), Arc::new(rt.alloc(), &rt)?);
     assert!(rt; matches!(files.find("a.txt"), FindOut::Absent));
     for (root, answer) in [
         ("no_such_site", RootOut::Absent),
@@ -149,7 +150,7 @@ fn a_small_file_keeps_its_content_and_a_big_one_that_shrinks_fails(
     fs::write(&rt, "site_of_the_content_test/empty", b"".as_slice())?;
     fs::write(&rt, "site_of_the_content_test/whole", &long[1..])?;
     fs::write(&rt, "site_of_the_content_test/big", long.as_slice())?;
-    let mut files = OsFiles::new(rt.alloc(), &rt);
+    let mut files = OsFiles::new(rt.alloc(), Arc::new(rt.alloc(), &rt)?);
     assert_eq!(rt; files.root(site), RootOut::Present);
     for (path, size, answer) in [
         ("small", 5, PartOut::Got(4)),
@@ -196,7 +197,7 @@ fn links_are_followed_and_what_is_no_file_is_absent(rt: HostRuntime) -> Result<(
         let full = format!(in rt.alloc(); "{site}/{name}")?;
         symlink(&rt, place, full.as_str())?;
     }
-    let mut files = OsFiles::new(rt.alloc(), &rt);
+    let mut files = OsFiles::new(rt.alloc(), Arc::new(rt.alloc(), &rt)?);
     assert_eq!(rt; files.root(site), RootOut::Present);
     for path in [
         "folder", "nowhere", "circle", "pipe", "device", "circle/a", "file/a",
@@ -248,15 +249,18 @@ fn an_interrupted_read_of_a_file_is_tried_again(rt: HostRuntime) {
 fn moves<X: Send>(_moved: &X) {}
 
 #[test]
-fn files_that_were_found_may_move_to_another_thread(rt: HostRuntime) -> Result<(), Fail> {
+fn the_system_files_and_time_may_move_to_another_thread(rt: HostRuntime) -> Result<(), Fail> {
+    let rt = Arc::new(rt.alloc(), rt)?;
     let site = "site_of_the_threads_test";
-    fs::create_dir_all(&rt, site)?;
-    fs::write(&rt, "site_of_the_threads_test/a.txt", b"hello".as_slice())?;
-    let mut files = OsFiles::new(rt.alloc(), &rt);
-    assert_eq!(rt; files.root(site), RootOut::Present);
+    fs::create_dir_all(&*rt, site)?;
+    fs::write(&*rt, "site_of_the_threads_test/a.txt", b"hello".as_slice())?;
+    let mut files = OsFiles::new(rt.alloc(), Arc::try_clone(&rt)?);
+    assert_eq!(*rt; files.root(site), RootOut::Present);
     if let FindOut::Found(opened) = files.find("a.txt") {
         moves(&opened.file);
     }
-    fs::remove_dir_all(&rt, site)?;
+    moves(&files);
+    moves(&OsClock::new(Arc::try_clone(&rt)?));
+    fs::remove_dir_all(&*rt, site)?;
     Ok(())
 }

@@ -1,4 +1,4 @@
-// The forms in memory play what they were given.
+//! The forms in memory play what they were given.
 ghost use Rattle.std.specs.Prelude.{◌≡◌};
 ghost use Rattle.outside.specs.MemFolder.{folder_in};
 

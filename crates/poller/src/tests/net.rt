@@ -65,7 +65,7 @@ fn short(alloc: Global) -> Result<Script, AllocError>
     })
 }
 
-/// So many short scripts.
+/// This many short scripts.
 fn short_scripts(alloc: Global, count: u32) -> Result<Vec<Script>, AllocError>
     ensures { IfOk result (λ scripts. AreScripts scripts.items) }
 {

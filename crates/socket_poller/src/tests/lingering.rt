@@ -93,7 +93,7 @@ fn a_link_lingers_until_its_peer_ends(rt: HostRuntime) -> Result<(), Fail> {
     Ok(())
 }
 
-/// Sends until that fails, or so many pieces were sent. How many were.
+/// Sends until that fails, or this many pieces were sent. How many were.
 fn send_pieces<R: Wait>(
     rt: &R,
     client: &mut TcpStream,

@@ -97,7 +97,7 @@ fn every_second_poll_that_mustnt_wait_asks_the_system(rt: HostRuntime) -> Result
     Ok(())
 }
 
-/// Adds the links of so many new clients.
+/// Adds the links of this many new clients.
 fn add_links(
     rt: &HostRuntime,
     listener: &mut SockListener,

@@ -45,7 +45,7 @@ impl SetClock {
         }
     }
 
-    /// Sets it on by so many seconds.
+    /// Sets it on by this many seconds.
     pub(super) fn pass(&self, seconds: u64) {
         self.seconds.fetch_add(seconds, Ordering::SeqCst);
     }
@@ -145,7 +145,8 @@ pub(super) fn wait_for<C: Clock, R: Wait>(
     false
 }
 
-/// Reads until `NotYet` answers, the end or a fault, and polls in between. How many bytes came before the end.
+/// Reads until `NotYet` answers, the end or a fault, and polls in between. How many
+/// bytes came before the end.
 pub(super) fn read_to_end<C: Clock, R: Wait>(
     rt: &R,
     poller: &mut SockPoller<C>,

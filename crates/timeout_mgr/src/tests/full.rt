@@ -1,7 +1,7 @@
 //! A full table, and a slot that is used again.
 ghost use Rattle.timeout_mgr.specs.Calls.{IsOf};
 
-use crate::*;
+use crate::{AddWatch, CancelOut, Expired, SLOTS, TickleOut, TimePass, Timeouts, Watch};
 use reg_keys::Opening;
 use std::test::Fail;
 

@@ -1,7 +1,7 @@
 //! Where an add looks.
 ghost use Rattle.timeout_mgr.specs.Calls.{IsOf};
 
-use crate::*;
+use crate::{AddWatch, CancelOut, TimePass, Timeouts, Watch};
 use reg_keys::Opening;
 use std::test::Fail;
 

@@ -1,7 +1,7 @@
 //! What sweeps give to one thread.
 ghost use Rattle.timeout_mgr.specs.Calls.{IsOf};
 
-use crate::*;
+use crate::{AddWatch, CancelOut, Expired, TickleOut, TimePass, Timeouts, Watch};
 use reg_keys::Opening;
 use std::test::Fail;
 

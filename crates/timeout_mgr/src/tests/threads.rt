@@ -2,7 +2,7 @@
 ghost use Rattle.std.specs.Prelude.{All, IfOk};
 ghost use Rattle.timeout_mgr.specs.Calls.{IsOf};
 
-use crate::*;
+use crate::{AddWatch, Expired, TickleOut, TimePass, Timeouts, Watch};
 use reg_keys::Opening;
 use std::alloc::{AllocError, Global};
 use std::test::Fail;
@@ -21,7 +21,7 @@ struct Sweeper {
     given: u64,
 }
 
-/// A thread that tickles a watch: whether a tickle answered `Gone`, and whether one behind it answered
+/// A thread that tickles a watch: whether a tickle answered `Gone`, and whether one after it answered
 /// `Alive`.
 #[derive(Drop)]
 struct Tickler {

@@ -1,5 +1,5 @@
-// Requests with bodies: what is passed over, what is refused, and when the interim answer comes. Each comes in one piece and
-// byte by byte.
+//! Requests with bodies: what is passed over, what is refused, and when the interim answer comes. Each comes
+//! in one piece and byte by byte.
 ghost use Rattle.std.specs.Prelude.{IfOk};
 ghost use Rattle.outside.specs.ReadScript.{EachFilled};
 
@@ -210,7 +210,7 @@ fn bodies_that_break_a_rule_are_refused_and_close(rt: HostRuntime) -> Result<(),
     Ok(())
 }
 
-/// A request with so many bytes of content, and one behind it.
+/// A request with this many bytes of content, and one after it.
 fn with_content(alloc: Global, length: usize) -> Result<Vec<u8>, AllocError> {
     let head = format!(in alloc;
         "POST /x HTTP/1.1\r\nHost: a\r\nContent-Length: {length}\r\n\r\n"

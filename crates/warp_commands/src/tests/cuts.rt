@@ -1,4 +1,4 @@
-// Input that ends, or a link that fails, at each place.
+//! Input that ends, or a link that fails, at each place.
 ghost use Rattle.std.specs.Prelude.{IfOk};
 ghost use Rattle.outside.specs.ReadScript.{EachFilled};
 

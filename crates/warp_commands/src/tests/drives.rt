@@ -1,4 +1,4 @@
-// Whole commands, by the call that the program is: loads that are served in memory, and one connection.
+//! Whole commands, by the call that the program is: loads that are served in memory, and one connection.
 
 use super::{ASKED, MOMENT, PAGE, ROOM, Scene, USAGE, over_the_site, whole};
 use crate::{Host, run};
@@ -26,7 +26,8 @@ pub(super) type MemHost = Host<
     MemFront,
 >;
 
-/// Runs these words over the files of a load, with a link that asks for a page and so much room for lines: the status, and the host.
+/// Runs these words over the files of a load, with a link that asks for a page and so much room for
+/// lines: the status, and the host.
 pub(super) fn ran<R: Threads + Wait + Sync>(
     rt: &R,
     alloc: Global,

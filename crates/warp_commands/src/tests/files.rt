@@ -1,4 +1,4 @@
-// The files of a connection: what is looked for and read, and what a fault of theirs leaves.
+//! The files of a connection: what is looked for and read, and what a fault of theirs leaves.
 
 use super::{Scene, THREE, over_the_site, repeated, whole};
 use std::test::Fail;
@@ -55,7 +55,7 @@ fn each_call_of_the_files_may_fail(rt: HostRuntime) -> Result<(), Fail> {
     let words = ["connection", "site"];
     let fair = over_the_site(alloc, &words, whole(alloc, THREE)?, Scene::fair(alloc))?;
     assert_eq!(rt; fair.sent.len(), 1_422);
-    // Behind the root: a look and a part for each of two files. The third request has a file that is open.
+    // After the root: a look and a part for each of two files. The third request has a file that is open.
     for call in 2..8u64 {
         let scene = Scene {
             failing: vec![in alloc; call]?,

@@ -18,7 +18,13 @@ impl Listener for Deaf {
 
     type Link = MemLink;
 
-    ghost told = { λ listener. record { accepted = 0; waits = 0; faults = listener.faults.n; failed_row = listener.faults.n; plans = None } };
+    ghost told = { λ listener. record {
+      accepted = 0;
+      waits = 0;
+      faults = listener.faults.n;
+      failed_row = listener.faults.n;
+      plans = None;
+    } };
 
     fn accept(&mut self) -> AcceptOut<MemLink> {
         self.faults.rise();

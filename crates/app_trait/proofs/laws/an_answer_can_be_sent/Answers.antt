@@ -1,4 +1,4 @@
-use Rattle.app_trait.proofs.ReplyLemmas.{IsResponseFor-reply_after, IsSendable-proper}
+use Rattle.app_trait.specs.ReplyLaws.{IsResponseFor-reply_after, IsSendable-proper}
 use Rattle.app_trait.proofs.laws.an_answer_can_be_sent.Goals as goal
 
 pub returns : goal.returns

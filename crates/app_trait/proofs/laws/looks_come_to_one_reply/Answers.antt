@@ -1,5 +1,5 @@
 use Rattle.app_trait.proofs.KeptLemmas.{kept_next}
-use Rattle.app_trait.proofs.ReplyLemmas.{reply_to-is, reply_after-look, reply_after-answer, SawFound-next}
+use Rattle.app_trait.specs.ReplyLaws.{reply_to-is, reply_after-look, reply_after-answer, SawFound-next}
 use Rattle.app_trait.proofs.laws.looks_come_to_one_reply.Goals as goal
 
 pub returns : goal.returns

@@ -1,4 +1,4 @@
-use Rattle.conn_loop.proofs.StepLemmas.{prefix_for}
+use Rattle.conn_loop.proofs.CallLemmas.{prefix_for}
 use Rattle.conn_loop.proofs.laws.sent_is_a_prefix.Goals as goal
 
 pub returns : goal.returns

@@ -1,5 +1,5 @@
 use Rattle.app_trait.specs.FolderMoves.{folder_move}
-use Rattle.conn_loop.specs.Standing.{Represents}
+use Rattle.conn_loop.specs.ConnState.{Represents}
 use Rattle.conn_loop.specs.Steps.{to_go}
 use Rattle.conn_loop.proofs.tests.brought_on.Given as goal
 

@@ -16,12 +16,16 @@ invariant-loop-fired g l = record {
   own : AreOf l.mgr l.queue l.passes;
   stop : g.X.Runner.meaning.stop l.runner ≡ None;
   room : length l.passes.hand < HAND;
-  fits : (o : Opening) × g.X.Runner.meaning.fits l.runner (mgr_view l.passes.mgr) (jobs_of (firings o (map (fired_key g.T.Load.tag) l.list)));
-  poller : LeavesPolls g.X.Poller.Poller.meaning (g.X.Runner.meaning.poller_of l.initial.runner) (g.X.Runner.meaning.poller_of l.runner);
+  fits : (o : Opening) × g.X.Runner.meaning.fits l.runner (mgr_view l.passes.mgr)
+      (jobs_of (firings o (map (fired_key g.T.Load.tag) l.list)));
+  poller : LeavesPolls g.X.Poller.Poller.meaning (g.X.Runner.meaning.poller_of l.initial.runner)
+      (g.X.Runner.meaning.poller_of l.runner);
   events : IsAccounted (capacity_of l.queue) (book_of l.initial.passes) (book_of l.passes);
   takes : TakesNone l.initial.passes l.passes;
   ran : (o : Opening) → (n : ℕ) × (n + length l.list ≡ length l.initial.list)
-      × HasRunKeys g.X.Runner.meaning n (work_with (firings o (map (fired_key g.T.Load.tag) l.initial.list)) [] l.initial.passes) l.initial.runner (work_with (firings o (map (fired_key g.T.Load.tag) l.list)) [] l.passes) l.runner;
+      × HasRunKeys g.X.Runner.meaning n
+      (work_with (firings o (map (fired_key g.T.Load.tag) l.initial.list)) [] l.initial.passes)
+      l.initial.runner (work_with (firings o (map (fired_key g.T.Load.tag) l.list)) [] l.passes) l.runner;
 }
 
 abbrev pub decreases-loop-fired : goal.decreases-loop-fired

@@ -1,4 +1,5 @@
-use Rattle.dispatcher.proofs.Calls.{calls_none, calls_then, calls_opened, calls_registered, calls_withdrawn, calls_asked, calls_closed}
+use Rattle.dispatcher.proofs.Calls.{calls_none, calls_then, calls_opened, calls_registered, calls_withdrawn}
+use Rattle.dispatcher.proofs.Calls.{calls_asked, calls_closed}
 use Rattle.dispatcher.proofs.laws.calls_of_runs.Goals as goal
 
 pub returns : goal.returns

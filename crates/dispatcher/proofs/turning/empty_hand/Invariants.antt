@@ -12,12 +12,15 @@ invariant-loop g l = record {
   own : AreOf l.mgr l.queue l.passes;
   stop : g.X.Runner.meaning.stop l.runner ≡ None;
   fits : g.X.Runner.meaning.fits l.runner (mgr_view l.passes.mgr) [];
-  poller : LeavesPolls g.X.Poller.Poller.meaning (g.X.Runner.meaning.poller_of l.initial.runner) (g.X.Runner.meaning.poller_of l.runner);
+  poller : LeavesPolls g.X.Poller.Poller.meaning (g.X.Runner.meaning.poller_of l.initial.runner)
+      (g.X.Runner.meaning.poller_of l.runner);
   most : length l.passes.hand ≤ HAND;
   room : 0 < l.counter → length l.passes.hand < HAND;
   events : IsAccounted (capacity_of l.queue) (book_of l.initial.passes) (book_of l.passes);
-  emptied : WasFullWithin (capacity_of l.queue) (view_of l.initial.passes.queue) (view_of l.passes.queue) ⊎ (length l.passes.hand + l.counter ≤ length l.initial.passes.hand);
+  emptied : WasFullWithin (capacity_of l.queue) (view_of l.initial.passes.queue) (view_of l.passes.queue)
+      ⊎ (length l.passes.hand + l.counter ≤ length l.initial.passes.hand);
   takes : TakesNone l.initial.passes l.passes;
   few : l.ran ≤ 4 * l.counter;
-  ran : HasRunKeys g.X.Runner.meaning l.ran (work_with [] [] l.initial.passes) l.initial.runner (work_with [] [] l.passes) l.runner;
+  ran : HasRunKeys g.X.Runner.meaning l.ran (work_with [] [] l.initial.passes) l.initial.runner
+      (work_with [] [] l.passes) l.runner;
 }

@@ -10,5 +10,6 @@ loop-preserved g c = let m = c.in_ok-mgr.mgr in record {
   first = c.in_ok-row.ensures.first;
   rows = subst (All (λ row. IsOfMgr m row.pass)) (sym c.push_reserved.ensures.items)
       (All-append (λ row. IsOfMgr m row.pass) _ _ c.loop.invariant.rows
-      (All-cons (λ row. IsOfMgr m row.pass) c.in_ok-row.row [] c.in_ok-row.ensures.row (All-nil (λ row. IsOfMgr m row.pass))));
+      (All-cons (λ row. IsOfMgr m row.pass) c.in_ok-row.row
+      [] c.in_ok-row.ensures.row (All-nil (λ row. IsOfMgr m row.pass))));
 }

@@ -3,4 +3,6 @@ use Rattle.std.proofs.lemmas.Nat.Bits.{bit_at-trailing_zeros}
 use Rattle.event_mgr.proofs.bits.lowest_bit.Goals as goal
 
 pub returns : goal.returns
-returns c = let lowest = bit_at-trailing_zeros w64 c.args.word c.requires c.ranges.word.fits in record { within = lowest.0; set = lowest.1; lower = lowest.2 }
+returns c =
+    let lowest = bit_at-trailing_zeros w64 c.args.word c.requires c.ranges.word.fits in
+    record { within = lowest.0; set = lowest.1; lower = lowest.2 }

@@ -8,4 +8,5 @@ pub returns-clause-event : goal.returns-clause-event
 returns-clause-event c = λ v s l. c.legal_has_one_event_each.ensures s 1 _ (legal_seen v l s)
 
 pub returns-clause-everywhere : goal.returns-clause-everywhere
-returns-clause-everywhere c = λ v l. c.legal_stripes_happen_once.ensures (λ s. 1) _ (λ s low. legal_seen v l s)
+returns-clause-everywhere c =
+    λ v l. c.legal_stripes_happen_once.ensures (λ s. 1) _ (λ s low. legal_seen v l s)

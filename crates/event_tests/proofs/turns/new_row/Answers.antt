@@ -14,7 +14,13 @@ returns-clause-serves c =
     let p = c.in_ok-new-2.field-0 in
     let e = c.in_ok-new-2.ensures in
     let own = c.in_ok-own.ensures in (
-      (subst (λ (m : MgrPass Job). IsOfMgr c.args.mgr.now m) (sym e.mgr) own.other, subst (λ q. IsOf c.args.queue.now q) (sym e.queue) c.requires.place),
-      fresh_row (mgr_view c.args.pass.now) (mgr_view c.split.new.pass) (mgr_view p.mgr) c.args.book.finished.items c.requires.book
-          (subst (λ (m : MgrPass Job). IsMgrSplit (mgr_view c.args.pass.now) (mgr_view c.split.new.pass) (mgr_view m)) (sym e.mgr) own.split),
+      (
+        subst (λ (m : MgrPass Job). IsOfMgr c.args.mgr.now m) (sym e.mgr) own.other,
+        subst (λ q. IsOf c.args.queue.now q) (sym e.queue) c.requires.place,
+      ),
+      fresh_row (mgr_view c.args.pass.now) (mgr_view c.split.new.pass)
+          (mgr_view p.mgr) c.args.book.finished.items c.requires.book
+          (subst (λ (m : MgrPass Job).
+          IsMgrSplit (mgr_view c.args.pass.now) (mgr_view c.split.new.pass) (mgr_view m))
+          (sym e.mgr) own.split),
     )

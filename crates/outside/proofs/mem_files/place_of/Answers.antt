@@ -12,8 +12,10 @@ returns-then-eq c =
       c.loop-i-test.true,
       (
         file,
-        slice_get-get_or c.args.contents.now c.loop-i.i file c.loop-i-test.true ∙ ap Some (sym c.index-contents-i.is),
-        entry_found c.args.contents.now c.loop-i.i file c.args.path.now c.loop-i-test.true c.index-contents-i.is
+        slice_get-get_or c.args.contents.now c.loop-i.i file c.loop-i-test.true
+            ∙ ap Some (sym c.index-contents-i.is),
+        entry_found c.args.contents.now c.loop-i.i file c.args.path.now c.loop-i-test.true
+            c.index-contents-i.is
             (ap (λ t. bytes_eq c.args.path.now t) (sym s) ∙ sym e ∙ c.if-eq.true) c.loop-i.invariant.1,
       ),
     )

@@ -10,8 +10,10 @@ returns-in-Some c =
     let segment = c.args.segment.now in
     let at = c.in-Some.at in
     let there = any-at is_dot segment at c.in-Some.ensures in
-    let is : after_last is_dot segment ≡ drop (at + 1) segment = after_last-at is_dot segment at c.in-Some.ensures in
-    let shown : take (length segment - (at + 1)) (drop (at + 1) segment) ≡ after_last is_dot segment = grind (arith, common_steps) in
+    let is : after_last is_dot segment ≡ drop (at + 1) segment =
+    after_last-at is_dot segment at c.in-Some.ensures in
+    let shown : take (length segment - (at + 1)) (drop (at + 1) segment) ≡ after_last is_dot segment =
+    grind (arith, common_steps) in
     rw there (ap Some shown)
 
 pub returns-in-None : goal.returns-in-None

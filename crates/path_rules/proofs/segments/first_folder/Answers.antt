@@ -7,7 +7,8 @@ pub returns-in-Some : goal.returns-in-Some
 returns-in-Some c =
     let path = c.args.path.now in
     let at = c.in-Some.at in
-    let tail : take (length path - (at + 1)) (drop (at + 1) path) ≡ drop (at + 1) path = grind (arith, common_steps) in
+    let tail : take (length path - (at + 1)) (drop (at + 1) path) ≡ drop (at + 1) path =
+    grind (arith, common_steps) in
     rw tail (record {
       cut = split-first path at c.in-Some.ensures;
       shorter = omega (arith, length-drop (at + 1) path, c.in-Some.ensures.0.high);

@@ -14,7 +14,8 @@ returns-in-Ok c =
     let short : nat_le (length name) 255 ≡ true = grind (arith, nat_tests) in
     let utf8 : is_utf8 name ≡ true = is_utf8-from_IsUtf8 name c.in-Ok.ensures.cases.1 in
     let shown : is_hidden name ≡ false = sym c.is_hidden.ensures ∙ c.if-is_hidden.false in
-    let free : list_any is_forbidden name ≡ false = sym c.holds_forbidden.ensures ∙ c.if-holds_forbidden.false in (
+    let free : list_any is_forbidden name ≡ false =
+    sym c.holds_forbidden.ensures ∙ c.if-holds_forbidden.false in (
       c.in-Ok.ensures.cases.0,
       rw (short, utf8, shown, free) refl,
     )

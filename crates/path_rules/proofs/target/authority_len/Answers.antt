@@ -4,4 +4,5 @@ use Rattle.path_rules.proofs.target.authority_len.Goals as goal
 
 pub returns-clause-is : goal.returns-clause-is
 returns-clause-is c =
-    rw c.unwrap_or.ensures (first_or_length ends_authority c.args.bytes.now c.memchr2.result c.memchr2.ensures)
+    rw c.unwrap_or.ensures
+    (first_or_length ends_authority c.args.bytes.now c.memchr2.result c.memchr2.ensures)

@@ -4,4 +4,5 @@ use Rattle.path_rules.proofs.target.question_mark.Goals as goal
 
 pub returns-clause-is : goal.returns-clause-is
 returns-clause-is c =
-    rw c.unwrap_or.ensures (first_or_length is_question_mark c.args.bytes.now c.memchr.result c.memchr.ensures)
+    rw c.unwrap_or.ensures
+    (first_or_length is_question_mark c.args.bytes.now c.memchr.result c.memchr.ensures)

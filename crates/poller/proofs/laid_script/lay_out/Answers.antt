@@ -12,13 +12,17 @@ loop-step-preserved c =
     let n : ℕ = c.loop-step.step-index in
     let steps = c.args.steps.now in
     let here = c.loop-step-test.true in
-    let input : c.extend_from_slice.new.self.items ≡ c.loop-step.input.items ++ s.piece.items = c.in_ok-extend_from_slice.ensures.items ∙ ap (λ (t : List ℕ). c.loop-step.input.items ++ t) c.deref.ensures.value in
+    let input : c.extend_from_slice.new.self.items
+    ≡ c.loop-step.input.items ++ s.piece.items = c.in_ok-extend_from_slice.ensures.items
+    ∙ ap (λ (t : List ℕ). c.loop-step.input.items ++ t) c.deref.ensures.value in
     let reached = c.in_ok-push-2.ensures.items in
-    let long : c.len.result ≡ length c.extend_from_slice.new.self.items = c.len.ensures ∙ c.extend_from_slice.new.self.ok.0 in
+    let long : c.len.result ≡ length c.extend_from_slice.new.self.items =
+    c.len.ensures ∙ c.extend_from_slice.new.self.ok.0 in
     let r : Reached = record { input = c.len.result; allowance = c.loop-step.allowance + s.allowance } in
     let sum = ap (λ (k : ℕ). k + s.allowance) inv.1 in (
       subst (λ (t : List ℕ × List Reached). Lays steps (n + 1) t.0 t.1) (λ i. (sym input i, sym reached i))
-          (laid_more steps n c.loop-step.input.items c.loop-step.reached.items s r inv.0 here c.step-item.is (long ∙ ap length input) sum),
+          (laid_more steps n c.loop-step.input.items c.loop-step.reached.items s r inv.0 here c.step-item.is
+          (long ∙ ap length input) sum),
       sum ∙ sym (allowed_more steps n s here c.step-item.is),
       omega (arith, inv.2),
     )

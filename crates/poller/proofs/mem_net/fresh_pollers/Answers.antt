@@ -6,7 +6,10 @@ use Rattle.poller.specs.Rounds.{HasNoEntries}
 use Rattle.poller.proofs.mem_net.fresh_pollers.Goals as goal
 
 pub loop-made-preserved : goal.loop-made-preserved
-loop-made-preserved c = let inv = c.loop-made.invariant in let e = c.in_ok-push.ensures in (
-  e.len ∙ ap (λ n. n + 1) inv.0,
-  subst (λ (ps : List MemPoller). All HasNoEntries ps) (sym e.items) (All-push HasNoEntries c.loop-made.pollers.items c.new.result inv.1 c.new.ensures),
-)
+loop-made-preserved c =
+    let inv = c.loop-made.invariant in
+    let e = c.in_ok-push.ensures in (
+      e.len ∙ ap (λ n. n + 1) inv.0,
+      subst (λ (ps : List MemPoller). All HasNoEntries ps) (sym e.items)
+          (All-push HasNoEntries c.loop-made.pollers.items c.new.result inv.1 c.new.ensures),
+    )

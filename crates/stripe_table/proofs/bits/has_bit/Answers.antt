@@ -4,4 +4,5 @@ use Rattle.std.proofs.lemmas.Nat.Bits.{and_pow}
 use Rattle.stripe_table.proofs.bits.has_bit.Goals as goal
 
 pub returns : goal.returns
-returns c = grind (arith, tests, one_shl c.args.bit 64 c.requires, and_pow c.args.word c.args.bit, pow_pos c.args.bit)
+returns c =
+    grind (arith, tests, one_shl c.args.bit 64 c.requires, and_pow c.args.word c.args.bit, pow_pos c.args.bit)

@@ -9,7 +9,8 @@ invariant-loop-registration g l = record {
   few : length l.list + length l.taken ≤ 4;
   list : l.list ++ map (fired_as l.marks) l.taken ≡ map (fired_as l.marks) l.fn.taken;
   ascends : Ascends key_of l.initial.flags → Ascends key_of l.flags;
-  flags : Ascends key_of l.initial.flags → settle_all (run_state l.marks) l.taken l.flags ≡ settle_all (run_state l.marks) l.fn.taken l.initial.flags;
+  flags : Ascends key_of l.initial.flags → settle_all (run_state l.marks) l.taken l.flags
+      ≡ settle_all (run_state l.marks) l.fn.taken l.initial.flags;
 }
 
 abbrev pub decreases-loop-registration : goal.decreases-loop-registration

@@ -9,7 +9,8 @@ invariant-loop-registration g l = record {
   few : length l.list + length l.waits ≤ 4;
   list : l.list ++ map shut_as l.waits ≡ map shut_as l.fn.waits;
   ascends : Ascends key_of l.initial.flags → Ascends key_of l.flags;
-  flags : Ascends key_of l.initial.flags → settle_all shut_state l.waits l.flags ≡ settle_all shut_state l.fn.waits l.initial.flags;
+  flags : Ascends key_of l.initial.flags
+      → settle_all shut_state l.waits l.flags ≡ settle_all shut_state l.fn.waits l.initial.flags;
 }
 
 abbrev pub decreases-loop-registration : goal.decreases-loop-registration

@@ -1,7 +1,7 @@
 use Rattle.std.proofs.Common.{◌≡◌, List, []}
 use Rattle.reg_keys.specs.declared.entry.Entry.{Entry}
-use Rattle.stripe_table.specs.Stands.{Fits}
+use Rattle.stripe_table.specs.Represents.{ShowsPast}
 use Rattle.stripe_tests.proofs.tests.run.Given as goal
 
 abbrev pub invariant-loop-call : goal.invariant-loop-call
-invariant-loop-call l = (l.stripe.stripe ≡ 0) × ((past : List Entry) × Fits (λ _. []) past l.stripe)
+invariant-loop-call l = (l.stripe.stripe ≡ 0) × ((past : List Entry) × ShowsPast (λ _. []) past l.stripe)

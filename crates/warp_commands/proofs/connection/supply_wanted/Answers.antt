@@ -16,6 +16,8 @@ returns-clause-looked g c =
     let new = g.F.Files.told c.found_at-got.new.files in
     let looked = c.found_at-got.ensures.looked in
     let below = asked_below c.args.conn.now.stage c.requires.asking c.requires.asks c.serves.ensures.below in (
-      files_look c.wanted.result.now (fails_by c.found_at-got.result) old new (subst (λ (path : List ℕ). LiesBelow path) (sym c.wanted.ensures) below) looked,
-      fails_held (λ lease. g.F.Files.file_path lease.file) (λ lease. entry_of lease) c.found_at-got.result c.supply.new.self old.faults new.faults c.supply.ensures.holds.0 looked.failed,
+      files_look c.wanted.result.now (fails_by c.found_at-got.result) old new
+          (subst (λ (path : List ℕ). LiesBelow path) (sym c.wanted.ensures) below) looked,
+      fails_held (λ lease. g.F.Files.file_path lease.file) (λ lease. entry_of lease) c.found_at-got.result
+          c.supply.new.self old.faults new.faults c.supply.ensures.holds.0 looked.failed,
     )

@@ -4,8 +4,14 @@ use Rattle.warp_commands.proofs.load_run.kits_of.Goals as goal
 
 pub loop-poller-preserved : goal.loop-poller-preserved
 loop-poller-preserved c = record {
-  count = omega (arith, c.loop-poller.invariant.count, c.in-Some.ensures.steps.1, simp length-append at (ap length c.in_ok-push.ensures.items));
+  count = omega (
+    arith,
+    c.loop-poller.invariant.count,
+    c.in-Some.ensures.steps.1,
+    simp length-append at (ap length c.in_ok-push.ensures.items),
+  );
   books =
-      empty_books c.loop-poller.kits.items c.push.new.self.items c.in_ok-kit_of.field-0 c.in_ok-push.ensures.items
+      empty_books c.loop-poller.kits.items c.push.new.self.items c.in_ok-kit_of.field-0
+      c.in_ok-push.ensures.items
       c.loop-poller.invariant.books c.in_ok-kit_of.ensures.book;
 }

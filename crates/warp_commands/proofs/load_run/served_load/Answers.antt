@@ -6,7 +6,9 @@ use Rattle.warp_commands.proofs.load_run.served_load.Goals as goal
 
 pub returns : goal.returns
 returns g c =
-    let served = c.serve_loop.ensures in
-    was_driven (λ p. no_faults) (λ p. refl) c.args.load.connections c.args.dispatchers _ c.serve_loop.result
+    let served = c.in_ok-served.ensures in
+    was_driven (λ p. no_faults) (λ p. refl) c.args.load.connections c.args.dispatchers _ c.in_ok-served.served
     (c.in_ok-kits.ensures.count ∙ c.in_ok-listener.ensures.count)
-    served.own served.level (c.level_passes_keep_callbacks.ensures pass_view) served.explained served.count served.ends served.same
+    served.own served.level
+    (c.level_passes_keep_callbacks.ensures pass_view) served.events c.served_runs_add_up.ensures
+    served.explained served.count served.ends served.same

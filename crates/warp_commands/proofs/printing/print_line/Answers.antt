@@ -6,6 +6,7 @@ pub returns : goal.returns
 returns g c =
     let old = g.O.Sink.told c.args.out.now in
     let mid = g.O.Sink.told c.print_number.new.out in
-    puts_then (c.args.name.now ++ decimal c.args.number) (codes "\n") c.put.result old mid (g.O.Sink.told c.put.new.self)
+    puts_then (c.args.name.now ++ decimal c.args.number) (codes "\n") c.put.result old mid
+    (g.O.Sink.told c.put.new.self)
     (puts_whole c.print_number.result _ old mid c.in_default.not-Failed c.print_number.ensures)
     c.put.ensures

@@ -38,5 +38,6 @@ returns g c =
     puts_then (first ++ second) third c.print_line-3.result old later new
     (puts_then first second Stored old mid later
     (puts_whole c.print_line.result first old mid c.in_default.not-Failed c.print_line.ensures)
-    (puts_whole c.print_line-2.result second mid later c.in_default-print_line.not-Failed c.print_line-2.ensures))
+    (puts_whole c.print_line-2.result second mid later c.in_default-print_line.not-Failed
+    c.print_line-2.ensures))
     c.print_line-3.ensures

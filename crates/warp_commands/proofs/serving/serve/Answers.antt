@@ -22,7 +22,11 @@ returns g c =
       served = record {
         own = served.own;
         level = served.level;
-        callbacks = c.level_passes_keep_callbacks.ensures pass_view left.passes.items (λ k other here. lawful_of (arc_value left.shared) (get_or left.passes.items k other) (served.own k other here)) served.level;
+        callbacks =
+            c.level_passes_keep_callbacks.ensures pass_view left.passes.items (λ k other here.
+            lawful_of (arc_value left.shared) (get_or left.passes.items k other) (served.own k other here))
+            served.level served.events;
+        adds_up = c.served_runs_add_up.ensures;
         explained = served.explained;
         count = served.count ∙ begun.count;
         ends = served.ends;
@@ -30,5 +34,7 @@ returns g c =
         seconds = served.same.1;
       };
       ends = c.told-status.ensures.status;
-      prints = prints_serving c.told-status.result left.end old mid new c.told-status.ensures.status first c.told-status.ensures.prints;
+      prints =
+          prints_serving c.told-status.result left.end old mid new c.told-status.ensures.status
+          first c.told-status.ensures.prints;
     }

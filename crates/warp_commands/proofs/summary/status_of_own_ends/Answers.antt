@@ -9,7 +9,8 @@ pub returns-clause-cause : goal.returns-clause-cause
 returns-clause-cause g c = record {
   served = c.requires;
   no_read_fault = λ some. unmet c.some_ended.result c.if-some_ended.false (c.some_ended.ensures.1 some);
-  no_write_fault = λ some. unmet c.some_ended-2.result c.if-some_ended-2.false (c.some_ended-2.ensures.1 some);
+  no_write_fault =
+      λ some. unmet c.some_ended-2.result c.if-some_ended-2.false (c.some_ended-2.ensures.1 some);
   no_file_fault = λ some. unmet c.some_ended-3.result c.if-some_ended-3.false (c.some_ended-3.ensures.1 some);
   no_cut = λ some. unmet c.some_ended-4.result c.if-some_ended-4.false (c.some_ended-4.ensures.1 some);
 }

@@ -21,12 +21,17 @@ returns-in-Some-clause-cleaned g c = record { swept = c.sweep.ensures.swept; rea
 
 pub returns-clause-goes_on : goal.returns-clause-goes_on
 returns-clause-goes_on g c =
-    goes_then c.args.row.now c.sweep.new.row c.reap_twice-halted.new.row c.sweep.ensures.goes_on c.reap_twice-halted.ensures.goes_on
+    goes_then c.args.row.now c.sweep.new.row c.reap_twice-halted.new.row c.sweep.ensures.goes_on
+    c.reap_twice-halted.ensures.goes_on
 
 pub returns-clause-cleaned : goal.returns-clause-cleaned
 returns-clause-cleaned g c = record {
-  swept = subst (λ timed. HasSweptOnce (calls_of (seen_of c.args.row.now.runner.timed)) (calls_of (seen_of timed))) (sym c.reap_twice-halted.ensures.timed) c.sweep.ensures.swept;
+  swept =
+      subst (λ timed.
+      HasSweptOnce (calls_of (seen_of c.args.row.now.runner.timed)) (calls_of (seen_of timed)))
+      (sym c.reap_twice-halted.ensures.timed) c.sweep.ensures.swept;
   reaped = λ is.
-      reaped_behind (view_of c.args.row.now.runner.cached) (view_of c.sweep.new.row.runner.cached) (view_of c.reap_twice-halted.new.row.runner.cached)
+      reaped_behind (view_of c.args.row.now.runner.cached) (view_of c.sweep.new.row.runner.cached)
+      (view_of c.reap_twice-halted.new.row.runner.cached)
       c.sweep.ensures.goes_on.passes.cache (c.reap_twice-halted.ensures.reaped is);
 }

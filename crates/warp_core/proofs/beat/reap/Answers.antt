@@ -1,7 +1,7 @@
 use Rattle.std.proofs.Common.{◌++◌, refl, ap, subst, ◌∙◌}
 use Rattle.warp_passes.specs.CacheCalls.{DidReap}
 use Rattle.warp_passes.specs.Own.{entries_of}
-use Rattle.dispatcher.proofs.Grown.{all_grown_same, grown_same}
+use Rattle.dispatcher.specs.Laws.{all_grown_same, grown_same}
 use Rattle.turn_cell.specs.Calls.{view_of}
 use Rattle.event_mgr.specs.Manager.{mgr_view}
 use Rattle.warp_core.proofs.Serving.{goes_by}
@@ -11,13 +11,19 @@ pub returns-in-Reaped-clause-goes_on : goal.returns-in-Reaped-clause-goes_on
 returns-in-Reaped-clause-goes_on g c =
     let x = c.args.row.now in
     let y = record x { runner = record x.runner { cached = c.reap_once-out.new.pass } } in
-    goes_by x y (all_grown_same (mgr_view x.disp.mgr)) (record { cached = c.reap_once-out.ensures.cached.adds.grown; tallied = grown_same (view_of x.runner.tallied) }) refl
+    goes_by x y (all_grown_same (mgr_view x.disp.mgr)) (record {
+      cached = c.reap_once-out.ensures.cached.adds.grown;
+      tallied = grown_same (view_of x.runner.tallied);
+    }) refl
 
 pub returns-in-Spent-clause-goes_on : goal.returns-in-Spent-clause-goes_on
 returns-in-Spent-clause-goes_on g c =
     let x = c.args.row.now in
     let y = record x { runner = record x.runner { cached = c.reap_once-out.new.pass } } in
-    goes_by x y (all_grown_same (mgr_view x.disp.mgr)) (record { cached = c.reap_once-out.ensures.cached.adds.grown; tallied = grown_same (view_of x.runner.tallied) }) refl
+    goes_by x y (all_grown_same (mgr_view x.disp.mgr)) (record {
+      cached = c.reap_once-out.ensures.cached.adds.grown;
+      tallied = grown_same (view_of x.runner.tallied);
+    }) refl
 
 pub reap_once-out-requires-clause-own : goal.reap_once-out-requires-clause-own
 reap_once-out-requires-clause-own g c = c.requires.own.passes.cache
@@ -30,9 +36,18 @@ returns-in-Reaped-clause-serves g c =
     let own = c.requires.own in
     let passes = own.passes in
     record {
-      own = record { passes = record { disp = passes.disp; times = passes.times; cache = c.reap_once-out.ensures.own; tally = passes.tally }; shared = own.shared };
+      own = record {
+        passes = record {
+          disp = passes.disp;
+          times = passes.times;
+          cache = c.reap_once-out.ensures.own;
+          tally = passes.tally;
+        };
+        shared = own.shared;
+      };
       fits = c.requires.fits;
       halts = c.requires.halts;
+      events = c.requires.events;
     }
 
 pub returns-in-Spent-clause-serves : goal.returns-in-Spent-clause-serves
@@ -40,9 +55,18 @@ returns-in-Spent-clause-serves g c =
     let own = c.requires.own in
     let passes = own.passes in
     record {
-      own = record { passes = record { disp = passes.disp; times = passes.times; cache = c.reap_once-out.ensures.own; tally = passes.tally }; shared = own.shared };
+      own = record {
+        passes = record {
+          disp = passes.disp;
+          times = passes.times;
+          cache = c.reap_once-out.ensures.own;
+          tally = passes.tally;
+        };
+        shared = own.shared;
+      };
       fits = c.requires.fits;
       halts = c.requires.halts;
+      events = c.requires.events;
     }
 
 pub returns-in-Spent-clause-may_halt : goal.returns-in-Spent-clause-may_halt

@@ -5,7 +5,8 @@ use Rattle.event_mgr.specs.Manager.{mgr_view}
 use Rattle.timeout_mgr.specs.Calls.{view_of as seen_of}
 use Rattle.warp_runner.specs.Acts.{told_of}
 use Rattle.warp_runner.specs.Journal.{FitsUntil}
-use Rattle.warp_core.specs.Rows.{stop_in}
+use Rattle.warp_core.specs.Rows.{known_by, stop_in}
+use Rattle.warp_core.proofs.Keeping.{keeps_silent}
 use Rattle.warp_core.proofs.Serving.{cells_of, goes_by, made_grown, serves_on}
 use Rattle.warp_core.proofs.beat.sweep.Goals as goal
 
@@ -15,8 +16,10 @@ returns-in-Some-clause-serves g c =
     let e = c.sweep.ensures in
     let y = record x { disp = record x.disp { mgr = c.sweep.new.pass }; runner = c.sweep.new.self } in
     let polls = e.stays.1.same_faults in
-    serves_on g.B.Book.told g.P.Poller.meaning.faults c.args.shared.now x y c.requires (e.mgr, c.requires.own.passes.disp.1) e.own e.same.0
+    serves_on g.B.Book.told g.P.Poller.meaning.faults c.args.shared.now x y c.requires
+    (e.mgr, c.requires.own.passes.disp.1) e.own e.same.0
     (e.fits (stop_in x.halted) [] c.requires.fits) (omega arith) e.stays.0.tallied refl
+    (keeps_silent (known_by x) (mgr_view c.sweep.new.pass) e.made c.requires.events)
 
 pub returns-in-Some-clause-goes_on : goal.returns-in-Some-clause-goes_on
 returns-in-Some-clause-goes_on g c =
@@ -28,9 +31,12 @@ returns-in-Some-clause-goes_on g c =
 pub returns-in-Some-clause-may_halt : goal.returns-in-Some-clause-may_halt
 returns-in-Some-clause-may_halt g c =
     let r = c.sweep.new.self in
-    let u = told_of (mgr_view c.sweep.new.pass) (view_of r.tallied) (seen_of r.timed) (g.B.Book.told r.book) in
+    let u =
+    told_of (mgr_view c.sweep.new.pass) (view_of r.tallied) (seen_of r.timed) (g.B.Book.told r.book) in
     record {
-      stops = subst (λ (o : Option ℕ). FitsUntil r.limit o u []) c.in-Some.is (c.sweep.ensures.stops [] c.requires.fits.0);
+      stops =
+          subst (λ (o : Option ℕ). FitsUntil r.limit o u []) c.in-Some.is
+          (c.sweep.ensures.stops [] c.requires.fits.0);
       faulted = λ is. absurd (cc);
     }
 
@@ -40,8 +46,10 @@ returns-in-None-clause-serves g c =
     let e = c.sweep.ensures in
     let y = record x { disp = record x.disp { mgr = c.sweep.new.pass }; runner = c.sweep.new.self } in
     let polls = e.stays.1.same_faults in
-    serves_on g.B.Book.told g.P.Poller.meaning.faults c.args.shared.now x y c.requires (e.mgr, c.requires.own.passes.disp.1) e.own e.same.0
+    serves_on g.B.Book.told g.P.Poller.meaning.faults c.args.shared.now x y c.requires
+    (e.mgr, c.requires.own.passes.disp.1) e.own e.same.0
     (e.fits (stop_in x.halted) [] c.requires.fits) (omega arith) e.stays.0.tallied refl
+    (keeps_silent (known_by x) (mgr_view c.sweep.new.pass) e.made c.requires.events)
 
 pub returns-in-None-clause-goes_on : goal.returns-in-None-clause-goes_on
 returns-in-None-clause-goes_on g c =

@@ -33,11 +33,18 @@ loop-kit-preserved g c =
       left = omega arith;
       count = omega arith;
       many = v.many;
-      passes = told_on (λ p. p) passes_of rows c.push_reserved.new.self.items row pass (into_iter_items c.loop-kit.own) (into_iter_items c.next-in-loop-kit.new.self) _ own.0 put.items e.pass v.passes;
-      books = told_on (λ k. k.book) (λ r. r.runner.book) rows c.push_reserved.new.self.items row kit (into_iter_items c.loop-kit.kit-iterator) (into_iter_items c.next.new.self) _ next.0 put.items e.book v.books;
+      passes =
+          told_on (λ p. p) passes_of rows c.push_reserved.new.self.items row pass
+          (into_iter_items c.loop-kit.own)
+          (into_iter_items c.next-in-loop-kit.new.self) _ own.0 put.items e.pass v.passes;
+      books =
+          told_on (λ k. k.book) (λ r. r.runner.book) rows c.push_reserved.new.self.items row kit
+          (into_iter_items c.loop-kit.kit-iterator)
+          (into_iter_items c.next.new.self) _ next.0 put.items e.book v.books;
       plain = subst (All (IsPlain (arc_value c.args.shared.now) c.args.limit)) (sym put.items)
           (All-append (IsPlain (arc_value c.args.shared.now) c.args.limit) rows (row ∷ []) v.plain
-          (All-cons (IsPlain (arc_value c.args.shared.now) c.args.limit) row [] is_plain (All-nil (IsPlain (arc_value c.args.shared.now) c.args.limit))));
+          (All-cons (IsPlain (arc_value c.args.shared.now) c.args.limit) row
+          [] is_plain (All-nil (IsPlain (arc_value c.args.shared.now) c.args.limit))));
     }
 
 pub returns-clause-serve : goal.returns-clause-serve
@@ -50,13 +57,18 @@ returns-clause-serve g c =
     let rows = c.loop-kit.rows.items in
     let all : length rows ≡ length c.args.passes.items = omega arith in
     let also : length rows ≡ length c.args.kits.items = omega arith in
-    new_serve g.B.Book.told g.P.Poller.meaning.faults (arc_value c.args.shared.now) c.args.limit rows c.args.passes.items c.args.kits.items
-    (all_told (λ p. p) passes_of rows (into_iter_items c.loop-kit.own) c.args.passes.items v.passes all ∙ map-id c.args.passes.items)
-    (all_told (λ k. k.book) (λ r. r.runner.book) rows (into_iter_items c.loop-kit.kit-iterator) c.args.kits.items v.books also)
+    new_serve g.B.Book.told g.P.Poller.meaning.faults
+    (arc_value c.args.shared.now) c.args.limit rows c.args.passes.items c.args.kits.items
+    (all_told (λ p. p) passes_of rows (into_iter_items c.loop-kit.own) c.args.passes.items v.passes all
+    ∙ map-id c.args.passes.items)
+    (all_told (λ k. k.book) (λ r. r.runner.book) rows
+    (into_iter_items c.loop-kit.kit-iterator) c.args.kits.items v.books also)
     v.plain c.requires.new c.requires.books c.new_passes_did_nothing.ensures
 
 pub returns-clause-limit : goal.returns-clause-limit
-returns-clause-limit g c = new_limits g.B.Book.told g.P.Poller.meaning.faults (arc_value c.args.shared.now) c.args.limit c.loop-kit.rows.items c.loop-kit.invariant.plain
+returns-clause-limit g c =
+    new_limits g.B.Book.told g.P.Poller.meaning.faults
+    (arc_value c.args.shared.now) c.args.limit c.loop-kit.rows.items c.loop-kit.invariant.plain
 
 pub returns-clause-passes : goal.returns-clause-passes
 returns-clause-passes g c =
@@ -66,4 +78,5 @@ returns-clause-passes g c =
     let count = v.count in
     let rows = c.loop-kit.rows.items in
     let all : length rows ≡ length c.args.passes.items = omega arith in
-    all_told (λ p. p) passes_of rows (into_iter_items c.loop-kit.own) c.args.passes.items v.passes all ∙ map-id c.args.passes.items
+    all_told (λ p. p) passes_of rows (into_iter_items c.loop-kit.own) c.args.passes.items v.passes all
+    ∙ map-id c.args.passes.items

@@ -12,7 +12,9 @@ invariant-loop-kit g l = record {
   left : into_iter_len l.own ≡ into_iter_len l.kit-iterator;
   count : into_iter_len l.own + length l.rows.items ≡ length l.fn.passes.items;
   many : length l.fn.passes.items ≡ length l.fn.kits.items;
-  passes : map passes_of l.rows.items ++ map (λ p. p) (into_iter_items l.own) ≡ map (λ p. p) l.fn.passes.items;
-  books : map (λ row. row.runner.book) l.rows.items ++ map (λ kit. kit.book) (into_iter_items l.kit-iterator) ≡ map (λ kit. kit.book) l.fn.kits.items;
+  passes : map passes_of l.rows.items ++ map (λ p. p) (into_iter_items l.own)
+      ≡ map (λ p. p) l.fn.passes.items;
+  books : map (λ row. row.runner.book) l.rows.items ++ map (λ kit. kit.book) (into_iter_items l.kit-iterator)
+      ≡ map (λ kit. kit.book) l.fn.kits.items;
   plain : All (IsPlain (arc_value l.shared) l.limit) l.rows.items;
 }

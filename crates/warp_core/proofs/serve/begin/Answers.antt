@@ -18,13 +18,16 @@ pub listen-requires-clause-listener : goal.listen-requires-clause-listener
 listen-requires-clause-listener g c = c.requires.listener
 
 pub returns-clause-serve : goal.returns-clause-serve
-returns-clause-serve g c = All-set (λ row. Serves g.B.Book.told g.P.Poller.meaning.faults c.args.shared.now row) c.args.rows.now 0 c.listen.new.row c.listen.ensures.serves c.requires.serve
+returns-clause-serve g c =
+    All-set (λ row. Serves g.B.Book.told g.P.Poller.meaning.faults c.args.shared.now row) c.args.rows.now
+    0 c.listen.new.row c.listen.ensures.serves c.requires.serve
 
 pub returns-clause-limit : goal.returns-clause-limit
 returns-clause-limit g c =
     let xs = c.args.rows.now in
     let x = get_or xs 0 c.index-rows-0.result in
-    map_one (λ row. row.runner.limit) xs 0 x c.listen.new.row (slice_get-get_or xs 0 c.index-rows-0.result c.requires.some) c.listen.ensures.goes_on.limit
+    map_one (λ row. row.runner.limit) xs 0 x c.listen.new.row
+    (slice_get-get_or xs 0 c.index-rows-0.result c.requires.some) c.listen.ensures.goes_on.limit
 
 pub returns-clause-seats : goal.returns-clause-seats
 returns-clause-seats g c =
@@ -32,4 +35,6 @@ returns-clause-seats g c =
     let x = get_or xs 0 c.index-rows-0.result in
     let y = c.listen.new.row in
     c.grown_passes_hold_the_seats.ensures known_by xs (slice_set xs 0 y)
-    (each_one HasPassGrown known_by pass_same xs 0 x y (slice_get-get_or xs 0 c.index-rows-0.result c.requires.some) c.listen.ensures.goes_on.passes) c.requires.seats
+    (each_one HasPassGrown known_by pass_same xs 0 x y
+    (slice_get-get_or xs 0 c.index-rows-0.result c.requires.some) c.listen.ensures.goes_on.passes)
+    c.requires.seats

@@ -24,7 +24,9 @@ pub serve_on-requires-clause-serve : goal.serve_on-requires-clause-serve
 serve_on-requires-clause-serve g c = λ κs lives. c.begin.ensures.serve
 
 pub serve_on-requires-clause-limit : goal.serve_on-requires-clause-limit
-serve_on-requires-clause-limit g c = λ κs lives. all_same_by (λ row. row.runner.limit) c.args.limit c.args.rows.now c.begin.new.rows c.begin.ensures.limit c.requires.limit
+serve_on-requires-clause-limit g c =
+    λ κs lives. all_same_by (λ row.
+    row.runner.limit) c.args.limit c.args.rows.now c.begin.new.rows c.begin.ensures.limit c.requires.limit
 
 pub serve_on-requires-clause-seats : goal.serve_on-requires-clause-seats
 serve_on-requires-clause-seats g c = λ κs lives. c.begin.ensures.seats

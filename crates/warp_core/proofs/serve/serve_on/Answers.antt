@@ -3,7 +3,12 @@ use Rattle.warp_core.proofs.RowLists.{all_same_by}
 use Rattle.warp_core.proofs.serve.serve_on.Goals as goal
 
 pub loop-init : goal.loop-init
-loop-init g c = record { some = c.requires.some; serve = c.requires.serve; limits = c.requires.limit; seats = c.requires.seats }
+loop-init g c = record {
+  some = c.requires.some;
+  serve = c.requires.serve;
+  limits = c.requires.limit;
+  seats = c.requires.seats;
+}
 
 pub settle-requires-clause-some : goal.settle-requires-clause-some
 settle-requires-clause-some g c = c.loop.invariant.some
@@ -42,6 +47,8 @@ pub loop-preserved : goal.loop-preserved
 loop-preserved g c = record {
   some = (let some = c.loop.invariant.some in omega arith);
   serve = c.turn_all.ensures.serve;
-  limits = all_same_by (λ row. row.runner.limit) c.args.limit c.settle.new.rows c.turn_all.new.rows c.turn_all.ensures.limit c.settle.ensures.limit;
+  limits =
+      all_same_by (λ row. row.runner.limit) c.args.limit c.settle.new.rows c.turn_all.new.rows
+      c.turn_all.ensures.limit c.settle.ensures.limit;
   seats = c.turn_all.ensures.seats;
 }

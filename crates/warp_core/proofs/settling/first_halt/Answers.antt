@@ -10,5 +10,6 @@ returns-in-Some g c = (
   c.row-item.result,
   c.loop-row-test.true,
   sym c.row-item.is,
-  subst (λ (h : Option Halted). IsSomeAnd h (λ k. EndOf k c.end_of.result)) (sym c.in-Some.is) c.end_of.ensures,
+  subst (λ (h : Option Halted). IsSomeAnd h (λ k. EndOf k c.end_of.result))
+      (sym c.in-Some.is) c.end_of.ensures,
 )

@@ -1,6 +1,6 @@
 use Rattle.std.proofs.Common.{[], refl, arith}
 use Rattle.event_mgr.specs.Manager.{mgr_view}
-use Rattle.dispatcher.proofs.Grown.{all_grown_same}
+use Rattle.dispatcher.specs.Laws.{all_grown_same}
 use Rattle.warp_core.specs.Rows.{stop_in}
 use Rattle.warp_core.proofs.Serving.{cells_of, goes_by, serves_on}
 use Rattle.warp_core.proofs.settling.look_for_over.Goals as goal
@@ -14,8 +14,10 @@ returns-in-Spent-clause-serves g c =
     let e = c.look.ensures in
     let y = record x { runner = c.look.new.self } in
     let polls = e.stays.1.same_faults in
-    serves_on g.B.Book.told g.P.Poller.meaning.faults c.args.shared.now x y c.requires c.requires.own.passes.disp e.own e.same.0
+    serves_on g.B.Book.told g.P.Poller.meaning.faults c.args.shared.now x y c.requires
+    c.requires.own.passes.disp e.own e.same.0
     (e.fits (stop_in x.halted) (mgr_view x.disp.mgr) [] c.requires.fits) (omega arith) e.stays.0.tallied refl
+    c.requires.events
 
 pub returns-in-Spent-clause-goes_on : goal.returns-in-Spent-clause-goes_on
 returns-in-Spent-clause-goes_on g c =
@@ -30,8 +32,10 @@ returns-then-is_over-clause-serves g c =
     let e = c.look.ensures in
     let y = record x { runner = c.look.new.self } in
     let polls = e.stays.1.same_faults in
-    serves_on g.B.Book.told g.P.Poller.meaning.faults c.args.shared.now x y c.requires c.requires.own.passes.disp e.own e.same.0
+    serves_on g.B.Book.told g.P.Poller.meaning.faults c.args.shared.now x y c.requires
+    c.requires.own.passes.disp e.own e.same.0
     (e.fits (stop_in x.halted) (mgr_view x.disp.mgr) [] c.requires.fits) (omega arith) e.stays.0.tallied refl
+    c.requires.events
 
 pub returns-then-is_over-clause-goes_on : goal.returns-then-is_over-clause-goes_on
 returns-then-is_over-clause-goes_on g c =
@@ -46,8 +50,10 @@ returns-else-is_over-clause-serves g c =
     let e = c.look.ensures in
     let y = record x { runner = c.look.new.self } in
     let polls = e.stays.1.same_faults in
-    serves_on g.B.Book.told g.P.Poller.meaning.faults c.args.shared.now x y c.requires c.requires.own.passes.disp e.own e.same.0
+    serves_on g.B.Book.told g.P.Poller.meaning.faults c.args.shared.now x y c.requires
+    c.requires.own.passes.disp e.own e.same.0
     (e.fits (stop_in x.halted) (mgr_view x.disp.mgr) [] c.requires.fits) (omega arith) e.stays.0.tallied refl
+    c.requires.events
 
 pub returns-else-is_over-clause-goes_on : goal.returns-else-is_over-clause-goes_on
 returns-else-is_over-clause-goes_on g c =
@@ -59,4 +65,11 @@ returns-else-is_over-clause-goes_on g c =
 pub returns-then-is_over-clause-says : goal.returns-then-is_over-clause-says
 returns-then-is_over-clause-says g c =
     let is = c.is_over.ensures c.if-is_over.true in
-    record { reply = c.in-Done.reply; entered = c.in-Done.ensures.called; limit_is = is.0; accepted = refl; turned = refl; all = is.1 }
+    record {
+      reply = c.in-Done.reply;
+      entered = c.in-Done.ensures.called;
+      limit_is = is.0;
+      accepted = refl;
+      turned = refl;
+      all = is.1;
+    }

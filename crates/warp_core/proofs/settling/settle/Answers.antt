@@ -29,7 +29,8 @@ returns-in-Some-clause-level g c = c.show_over-over.ensures.level
 
 pub returns-in-Some-clause-ends : goal.returns-in-Some-clause-ends
 returns-in-Some-clause-ends g c =
-    ends_halted known_by (λ row. (g.P.Poller.meaning.faults row.runner.poller).polls) (λ row. row.halted) c.args.limit c.in-Some.end c.show_over-over.new.rows
+    ends_halted known_by (λ row. (g.P.Poller.meaning.faults row.runner.poller).polls)
+    (λ row. row.halted) c.args.limit c.in-Some.end c.show_over-over.new.rows
     (λ k d lt. (c.show_over-over.ensures.serve k d lt).halts) c.in-Some.ensures
 
 pub returns-in-None-clause-serve : goal.returns-in-None-clause-serve
@@ -46,12 +47,15 @@ returns-in-None-clause-level g c = c.show_over-over.ensures.level
 
 pub returns-in-None-clause-ends : goal.returns-in-None-clause-ends
 returns-in-None-clause-ends g c =
-    ends_shown known_by (λ row. (g.P.Poller.meaning.faults row.runner.poller).polls) c.args.limit c.show_over-over.result c.show_over-over.new.rows c.show_over-over.ensures.ends
+    ends_shown known_by (λ row. (g.P.Poller.meaning.faults row.runner.poller).polls) c.args.limit
+    c.show_over-over.result c.show_over-over.new.rows c.show_over-over.ensures.ends
 
 pub returns-in-Some-clause-cause : goal.returns-in-Some-clause-cause
 returns-in-Some-clause-cause g c =
-    caused_halted g.B.Book.told g.P.Poller.meaning.faults c.args.shared.now c.args.limit c.in-Some.end c.show_over-over.new.rows c.show_over-over.ensures.serve c.show_over-over.ensures.limit c.in-Some.ensures
+    caused_halted g.B.Book.told g.P.Poller.meaning.faults c.args.shared.now c.args.limit c.in-Some.end
+    c.show_over-over.new.rows c.show_over-over.ensures.serve c.show_over-over.ensures.limit c.in-Some.ensures
 
 pub returns-in-None-clause-cause : goal.returns-in-None-clause-cause
 returns-in-None-clause-cause g c =
-    caused_shown known_by c.args.limit c.show_over-over.result c.show_over-over.new.rows (OneDid g.B.Book.told c.args.limit c.show_over-over.new.rows) c.show_over-over.ensures.ends
+    caused_shown known_by c.args.limit c.show_over-over.result c.show_over-over.new.rows
+    (OneDid g.B.Book.told c.args.limit c.show_over-over.new.rows) c.show_over-over.ensures.ends

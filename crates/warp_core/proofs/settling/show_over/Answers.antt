@@ -30,8 +30,10 @@ pub returns-clause-serve : goal.returns-clause-serve
 returns-clause-serve g c = c.bring_level-2.ensures.serve
 
 pub returns-clause-limit : goal.returns-clause-limit
-returns-clause-limit g c = all_same_by (λ row. row.runner.limit) c.args.limit c.args.rows.now c.bring_level-2.new.rows
-    (c.bring_level-2.ensures.limit ∙ (c.look_first-over.ensures.limit ∙ c.bring_level.ensures.limit)) c.requires.limit
+returns-clause-limit g c =
+    all_same_by (λ row. row.runner.limit) c.args.limit c.args.rows.now c.bring_level-2.new.rows
+    (c.bring_level-2.ensures.limit ∙ (c.look_first-over.ensures.limit ∙ c.bring_level.ensures.limit))
+    c.requires.limit
 
 pub returns-clause-seats : goal.returns-clause-seats
 returns-clause-seats g c = c.bring_level-2.ensures.seats
@@ -43,6 +45,9 @@ pub returns-clause-ends : goal.returns-clause-ends
 returns-clause-ends g c =
     let s = c.args.shared.now in
     let zs = c.bring_level-2.new.rows in
-    shown_over known_by c.level_passes_add_up.ensures c.replies_show_the_counts.ensures c.full_counts_close_each.ensures c.args.limit c.look_first-over.result
-    c.bring_level.new.rows c.look_first-over.new.rows zs c.bring_level.ensures.level c.look_first-over.ensures.looked c.bring_level-2.ensures.came c.bring_level-2.ensures.keeps
-    (rows_lawful s zs (rows_own g.B.Book.told g.P.Poller.meaning.faults s zs c.bring_level-2.ensures.serve)) c.bring_level-2.ensures.level
+    shown_over known_by c.level_passes_add_up.ensures c.replies_show_the_counts.ensures
+    c.full_counts_close_each.ensures c.args.limit c.look_first-over.result
+    c.bring_level.new.rows c.look_first-over.new.rows zs c.bring_level.ensures.level
+    c.look_first-over.ensures.looked c.bring_level-2.ensures.came c.bring_level-2.ensures.keeps
+    (rows_lawful s zs (rows_own g.B.Book.told g.P.Poller.meaning.faults s zs c.bring_level-2.ensures.serve))
+    c.bring_level-2.ensures.level

@@ -20,4 +20,6 @@ pub returns-in-Some-clause-serves : goal.returns-in-Some-clause-serves
 returns-in-Some-clause-serves g c = c.halt.ensures.serves
 
 pub returns-in-Some-clause-goes_on : goal.returns-in-Some-clause-goes_on
-returns-in-Some-clause-goes_on g c = goes_then c.args.row.now c.turn_once.new.row c.halt.new.row c.turn_once.ensures.goes_on c.halt.ensures.goes_on
+returns-in-Some-clause-goes_on g c =
+    goes_then c.args.row.now c.turn_once.new.row c.halt.new.row c.turn_once.ensures.goes_on
+    c.halt.ensures.goes_on

@@ -2,7 +2,7 @@ use Rattle.std.proofs.Common.{[], refl, subst, arith}
 use Rattle.std.specs.Prelude.{Some, None}
 use Rattle.turn_cell.specs.Calls.{view_of}
 use Rattle.event_mgr.specs.Manager.{mgr_view}
-use Rattle.dispatcher.proofs.Grown.{all_grown_same}
+use Rattle.dispatcher.specs.Laws.{all_grown_same}
 use Rattle.warp_runner.specs.Journal.{FitsUntil}
 use Rattle.warp_core.specs.declared.row.Halted.{Halted}
 use Rattle.warp_core.specs.declared.row.Halted.TheVariants as Halts
@@ -14,7 +14,8 @@ pub note_stop-requires : goal.note_stop-requires
 note_stop-requires g c = record { own = cells_of c.args.shared.now c.args.row.now c.requires.serves.own }
 
 pub note_stop-requires-in-WithCode : goal.note_stop-requires-in-WithCode
-note_stop-requires-in-WithCode g c = record { own = cells_of c.args.shared.now c.args.row.now c.requires.serves.own }
+note_stop-requires-in-WithCode g c =
+    record { own = cells_of c.args.shared.now c.args.row.now c.requires.serves.own }
 
 pub returns-in-PollFault-clause-serves : goal.returns-in-PollFault-clause-serves
 returns-in-PollFault-clause-serves g c =
@@ -22,8 +23,11 @@ returns-in-PollFault-clause-serves g c =
     let e = c.note_stop.ensures in
     let y = record x { runner = c.note_stop.new.self; halted = Some Halts.PollFault } in
     let polls = e.stays.1.same_faults in
-    serves_with g.B.Book.told g.P.Poller.meaning.faults c.args.shared.now x y c.requires.serves c.requires.serves.own.passes.disp e.own e.same.0
-    (((e.fits None (mgr_view x.disp.mgr) [] ((c.requires.serves.fits.0, tt))).0, tt)) (let was = c.requires.may_halt.faulted c.in-PollFault.is in omega arith)
+    serves_with g.B.Book.told g.P.Poller.meaning.faults c.args.shared.now x y c.requires.serves
+    c.requires.serves.own.passes.disp e.own e.same.0
+    (((e.fits None (mgr_view x.disp.mgr) [] ((c.requires.serves.fits.0, tt))).0, tt)) (let was =
+    c.requires.may_halt.faulted c.in-PollFault.is in omega arith)
+    c.requires.serves.events
 
 pub returns-in-PollFault-clause-goes_on : goal.returns-in-PollFault-clause-goes_on
 returns-in-PollFault-clause-goes_on g c =
@@ -36,17 +40,29 @@ pub returns-in-Done-clause-serves : goal.returns-in-Done-clause-serves
 returns-in-Done-clause-serves g c =
     let x = c.args.row.now in
     let e = c.note_stop-in-WithCode.ensures in
-    let y = record x { runner = c.note_stop-in-WithCode.new.self; halted = Some (Halts.WithCode c.in-WithCode.code) } in
+    let y = record x {
+      runner = c.note_stop-in-WithCode.new.self;
+      halted = Some (Halts.WithCode c.in-WithCode.code);
+    } in
     let polls = e.stays.1.same_faults in
-    let stops = subst (λ (h : Halted). FitsUntil x.runner.limit (stop_in (Some h)) (told_by g.B.Book.told x) []) c.in-WithCode.is c.requires.may_halt.stops in
-    serves_with g.B.Book.told g.P.Poller.meaning.faults c.args.shared.now x y c.requires.serves c.requires.serves.own.passes.disp e.own e.same.0
-    (e.fits (Some c.in-WithCode.code) (mgr_view x.disp.mgr) [] stops) (stop_noted c.in-WithCode.code c.in-Done.field-0 (view_of x.runner.tallied) (view_of c.note_stop-in-WithCode.new.self.tallied) c.in-Done.ensures.called)
+    let stops = subst (λ (h : Halted).
+    FitsUntil x.runner.limit (stop_in (Some h)) (told_by g.B.Book.told x) []) c.in-WithCode.is
+    c.requires.may_halt.stops in
+    serves_with g.B.Book.told g.P.Poller.meaning.faults c.args.shared.now x y c.requires.serves
+    c.requires.serves.own.passes.disp e.own e.same.0
+    (e.fits (Some c.in-WithCode.code) (mgr_view x.disp.mgr) [] stops)
+    (stop_noted c.in-WithCode.code c.in-Done.field-0 (view_of x.runner.tallied)
+    (view_of c.note_stop-in-WithCode.new.self.tallied) c.in-Done.ensures.called)
+    c.requires.serves.events
 
 pub returns-in-Done-clause-goes_on : goal.returns-in-Done-clause-goes_on
 returns-in-Done-clause-goes_on g c =
     let x = c.args.row.now in
     let e = c.note_stop-in-WithCode.ensures in
-    let y = record x { runner = c.note_stop-in-WithCode.new.self; halted = Some (Halts.WithCode c.in-WithCode.code) } in
+    let y = record x {
+      runner = c.note_stop-in-WithCode.new.self;
+      halted = Some (Halts.WithCode c.in-WithCode.code);
+    } in
     goes_by x y (all_grown_same (mgr_view x.disp.mgr)) e.stays.0 e.same.1
 
 pub returns-in-Spent-note_stop-clause-serves : goal.returns-in-Spent-note_stop-clause-serves
@@ -55,8 +71,10 @@ returns-in-Spent-note_stop-clause-serves g c =
     let e = c.note_stop-in-WithCode.ensures in
     let y = record x { runner = c.note_stop-in-WithCode.new.self; halted = Some Halts.Spent } in
     let polls = e.stays.1.same_faults in
-    serves_with g.B.Book.told g.P.Poller.meaning.faults c.args.shared.now x y c.requires.serves c.requires.serves.own.passes.disp e.own e.same.0
+    serves_with g.B.Book.told g.P.Poller.meaning.faults c.args.shared.now x y c.requires.serves
+    c.requires.serves.own.passes.disp e.own e.same.0
     (e.fits None (mgr_view x.disp.mgr) [] ((c.requires.serves.fits.0, tt))) tt
+    c.requires.serves.events
 
 pub returns-in-Spent-note_stop-clause-goes_on : goal.returns-in-Spent-note_stop-clause-goes_on
 returns-in-Spent-note_stop-clause-goes_on g c =
@@ -66,7 +84,8 @@ returns-in-Spent-note_stop-clause-goes_on g c =
     goes_by x y (all_grown_same (mgr_view x.disp.mgr)) e.stays.0 e.same.1
 
 pub note_stop-requires-in-Spent : goal.note_stop-requires-in-Spent
-note_stop-requires-in-Spent g c = record { own = cells_of c.args.shared.now c.args.row.now c.requires.serves.own }
+note_stop-requires-in-Spent g c =
+    record { own = cells_of c.args.shared.now c.args.row.now c.requires.serves.own }
 
 pub returns-in-Spent-clause-serves : goal.returns-in-Spent-clause-serves
 returns-in-Spent-clause-serves g c =
@@ -74,8 +93,10 @@ returns-in-Spent-clause-serves g c =
     let e = c.note_stop-in-Spent.ensures in
     let y = record x { runner = c.note_stop-in-Spent.new.self; halted = Some Halts.Spent } in
     let polls = e.stays.1.same_faults in
-    serves_with g.B.Book.told g.P.Poller.meaning.faults c.args.shared.now x y c.requires.serves c.requires.serves.own.passes.disp e.own e.same.0
+    serves_with g.B.Book.told g.P.Poller.meaning.faults c.args.shared.now x y c.requires.serves
+    c.requires.serves.own.passes.disp e.own e.same.0
     (e.fits None (mgr_view x.disp.mgr) [] ((c.requires.serves.fits.0, tt))) tt
+    c.requires.serves.events
 
 pub returns-in-Spent-clause-goes_on : goal.returns-in-Spent-clause-goes_on
 returns-in-Spent-clause-goes_on g c =

@@ -1,6 +1,6 @@
 use Rattle.std.proofs.Common.{[], refl, arith}
 use Rattle.event_mgr.specs.Manager.{mgr_view}
-use Rattle.dispatcher.proofs.Grown.{all_grown_same}
+use Rattle.dispatcher.specs.Laws.{all_grown_same}
 use Rattle.warp_core.specs.Rows.{stop_in}
 use Rattle.warp_core.proofs.Serving.{cells_of, goes_by, serves_on}
 use Rattle.warp_core.proofs.turns.look.Goals as goal
@@ -14,8 +14,10 @@ returns-in-Spent-clause-serves g c =
     let e = c.look.ensures in
     let y = record x { runner = c.look.new.self } in
     let polls = e.stays.1.same_faults in
-    serves_on g.B.Book.told g.P.Poller.meaning.faults c.args.shared.now x y c.requires c.requires.own.passes.disp e.own e.same.0
+    serves_on g.B.Book.told g.P.Poller.meaning.faults c.args.shared.now x y c.requires
+    c.requires.own.passes.disp e.own e.same.0
     (e.fits (stop_in x.halted) (mgr_view x.disp.mgr) [] c.requires.fits) (omega arith) e.stays.0.tallied refl
+    c.requires.events
 
 pub returns-in-Spent-clause-goes_on : goal.returns-in-Spent-clause-goes_on
 returns-in-Spent-clause-goes_on g c =
@@ -30,8 +32,10 @@ returns-then-all-clause-serves g c =
     let e = c.look.ensures in
     let y = record x { runner = c.look.new.self } in
     let polls = e.stays.1.same_faults in
-    serves_on g.B.Book.told g.P.Poller.meaning.faults c.args.shared.now x y c.requires c.requires.own.passes.disp e.own e.same.0
+    serves_on g.B.Book.told g.P.Poller.meaning.faults c.args.shared.now x y c.requires
+    c.requires.own.passes.disp e.own e.same.0
     (e.fits (stop_in x.halted) (mgr_view x.disp.mgr) [] c.requires.fits) (omega arith) e.stays.0.tallied refl
+    c.requires.events
 
 pub returns-then-all-clause-goes_on : goal.returns-then-all-clause-goes_on
 returns-then-all-clause-goes_on g c =
@@ -46,8 +50,10 @@ returns-else-all-clause-serves g c =
     let e = c.look.ensures in
     let y = record x { runner = c.look.new.self } in
     let polls = e.stays.1.same_faults in
-    serves_on g.B.Book.told g.P.Poller.meaning.faults c.args.shared.now x y c.requires c.requires.own.passes.disp e.own e.same.0
+    serves_on g.B.Book.told g.P.Poller.meaning.faults c.args.shared.now x y c.requires
+    c.requires.own.passes.disp e.own e.same.0
     (e.fits (stop_in x.halted) (mgr_view x.disp.mgr) [] c.requires.fits) (omega arith) e.stays.0.tallied refl
+    c.requires.events
 
 pub returns-else-all-clause-goes_on : goal.returns-else-all-clause-goes_on
 returns-else-all-clause-goes_on g c =

@@ -10,14 +10,18 @@ makes_a_round-requires g c = c.loop.invariant.serves
 pub loop-preserved : goal.loop-preserved
 loop-preserved g c = record {
   serves = c.makes_a_round.ensures.serves;
-  goes = goes_then c.args.row.now c.loop.row c.makes_a_round.new.row c.loop.invariant.goes c.makes_a_round.ensures.goes_on;
+  goes =
+      goes_then c.args.row.now c.loop.row c.makes_a_round.new.row c.loop.invariant.goes
+      c.makes_a_round.ensures.goes_on;
 }
 
 pub returns-then-not-makes_a_round-clause-serves : goal.returns-then-not-makes_a_round-clause-serves
 returns-then-not-makes_a_round-clause-serves g c = c.makes_a_round.ensures.serves
 
 pub returns-then-not-makes_a_round-clause-goes_on : goal.returns-then-not-makes_a_round-clause-goes_on
-returns-then-not-makes_a_round-clause-goes_on g c = goes_then c.args.row.now c.loop.row c.makes_a_round.new.row c.loop.invariant.goes c.makes_a_round.ensures.goes_on
+returns-then-not-makes_a_round-clause-goes_on g c =
+    goes_then c.args.row.now c.loop.row c.makes_a_round.new.row c.loop.invariant.goes
+    c.makes_a_round.ensures.goes_on
 
 pub returns-clause-serves : goal.returns-clause-serves
 returns-clause-serves g c = c.loop.invariant.serves

@@ -13,9 +13,14 @@ one_more before shown files path bytes content added same is = cc
 pub returns : goal.returns
 unfolding load_folder
 returns c =
-    let none : map file_entry c.in_ok-files.files.items ≡ [] = ap (λ (fs : List MemFile). map file_entry fs) c.in_ok-files.ensures.items in
-    let one = one_more _ [] _ (codes "index.html") _ (codes "hi\n") c.in_ok-add_file.ensures.added none c.in_ok-from_slice.ensures.items in
-    let two = one_more _ _ _ (codes "a.txt") _ (rounds 1000 97 26) c.in_ok-add_file-2.ensures.added one c.in_ok-rounds_of.ensures.bytes in
-    let three = one_more _ _ _ (codes "big.bin") _ (rounds 40000 0 251) c.in_ok-add_file-3.ensures.added two c.in_ok-rounds_of-2.ensures.bytes in
-    let four = one_more _ _ _ (codes "sub/index.html") _ (codes "sub\n") c.in_ok-add_file-4.ensures.added three c.in_ok-from_slice-2.ensures.items in
+    let none : map file_entry c.in_ok-files.files.items ≡ [] =
+    ap (λ (fs : List MemFile). map file_entry fs) c.in_ok-files.ensures.items in
+    let one = one_more _ [] _ (codes "index.html") _
+    (codes "hi\n") c.in_ok-add_file.ensures.added none c.in_ok-from_slice.ensures.items in
+    let two = one_more _ _ _ (codes "a.txt") _
+    (rounds 1000 97 26) c.in_ok-add_file-2.ensures.added one c.in_ok-rounds_of.ensures.bytes in
+    let three = one_more _ _ _ (codes "big.bin") _
+    (rounds 40000 0 251) c.in_ok-add_file-3.ensures.added two c.in_ok-rounds_of-2.ensures.bytes in
+    let four = one_more _ _ _ (codes "sub/index.html") _
+    (codes "sub\n") c.in_ok-add_file-4.ensures.added three c.in_ok-from_slice-2.ensures.items in
     record { folder = ap (λ (es : List (List ℕ × Content)). folder_of es) four }

@@ -7,10 +7,15 @@ use Rattle.warp_load.proofs.folder.rounds_of.Goals as goal
 pub loop-k-preserved : goal.loop-k-preserved
 loop-k-preserved c =
     let byte : ℕ → ℕ = λ k. c.args.from + k % c.args.period in
-    c.in_ok-push.ensures.items ∙ ap (λ (t : List ℕ). t ++ byte c.loop-k.k ∷ []) c.loop-k.invariant ∙ sym (map_next byte c.loop-k.k)
+    c.in_ok-push.ensures.items ∙ ap (λ (t : List ℕ). t ++ byte c.loop-k.k ∷ []) c.loop-k.invariant
+    ∙ sym (map_next byte c.loop-k.k)
 
 pub returns : goal.returns
 unfolding rounds
 returns c =
     let all : c.loop-k.k ≡ c.args.count = omega arith in
-    record { bytes = c.loop-k.invariant ∙ ap (λ (n : ℕ). map (λ k. c.args.from + k % c.args.period) (range_with_len 0 n)) all }
+    record {
+      bytes =
+          c.loop-k.invariant
+          ∙ ap (λ (n : ℕ). map (λ k. c.args.from + k % c.args.period) (range_with_len 0 n)) all;
+    }

@@ -5,4 +5,5 @@ pub returns-clause-rest : goal.returns-clause-rest
 returns-clause-rest c = rest_load c.a_settled_head_stays.ensures.stays c.a_settled_body_stays.ensures.stays
 
 pub returns-clause-finals : goal.returns-clause-finals
-returns-clause-finals c = finals_load c.a_settled_head_stays.ensures.stays c.a_settled_body_stays.ensures.stays
+returns-clause-finals c =
+    finals_load c.a_settled_head_stays.ensures.stays c.a_settled_body_stays.ensures.stays

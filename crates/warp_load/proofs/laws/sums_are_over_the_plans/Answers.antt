@@ -11,7 +11,8 @@ use Rattle.warp_load.proofs.laws.sums_are_over_the_plans.Goals as goal
 
 pub returns-clause-requests : goal.returns-clause-requests
 returns-clause-requests c seed connections requests =
-    sum_by-map (λ (plan : Plan). finals_of plan.1) (λ i. (i, load_input seed requests i)) (range_with_len 0 connections)
+    sum_by-map (λ (plan : Plan). finals_of plan.1) (λ i. (i, load_input seed requests i))
+    (range_with_len 0 connections)
 
 pub returns-clause-bytes : goal.returns-clause-bytes
 unfolding load_answers

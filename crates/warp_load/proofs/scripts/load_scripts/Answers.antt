@@ -21,7 +21,8 @@ loop-connection-preserved c =
     ap (λ (ss : List Script). map script_shown ss) c.in_ok-push.ensures.items
     ∙ map-append script_shown scripts (made ∷ [])
     ∙ ap (λ (shown : List (List ℕ × ℕ) × ℕ). map script_shown scripts ++ shown ∷ []) c.in_ok-script.ensures
-    ∙ ap (λ (shown : List (List (List ℕ × ℕ) × ℕ)). shown ++ load_script load.seed load.requests n ∷ []) c.loop-connection.invariant
+    ∙ ap (λ (shown : List (List (List ℕ × ℕ) × ℕ)). shown ++ load_script load.seed load.requests n ∷ [])
+    c.loop-connection.invariant
     ∙ sym (map_next (λ i. load_script load.seed load.requests i) n)
 
 pub returns-clause-scripts : goal.returns-clause-scripts
@@ -33,7 +34,8 @@ pub returns-clause-plans : goal.returns-clause-plans
 returns-clause-plans c =
     let load = c.args.load in
     let all : c.loop-connection.connection ≡ load.connections = omega arith in
-    plans_are load.seed load.requests 0 load.connections c.loop-connection.scripts.items (c.loop-connection.invariant ∙ ap (λ (n : ℕ). scripts_below load n) all)
+    plans_are load.seed load.requests 0 load.connections c.loop-connection.scripts.items
+    (c.loop-connection.invariant ∙ ap (λ (n : ℕ). scripts_below load n) all)
 
 pub returns-clause-fit : goal.returns-clause-fit
 returns-clause-fit c =
@@ -41,4 +43,5 @@ returns-clause-fit c =
     let all : c.loop-connection.connection ≡ load.connections = omega arith in
     let fits = ranges load.seed load.connections load.requests load.in_range in
     scripts_fit load.seed load.requests load.connections c.loop-connection.scripts.items
-    (c.loop-connection.invariant ∙ ap (λ (n : ℕ). scripts_below load n) all) fits.requests_fit fits.connections_fit
+    (c.loop-connection.invariant ∙ ap (λ (n : ℕ). scripts_below load n) all) fits.requests_fit
+    fits.connections_fit

@@ -14,7 +14,12 @@ loop-connection-preserved c =
     let load = c.args.load in
     let few = (ranges load.seed load.connections load.requests load.in_range).requests_fit in
     record {
-      counted = omega (arith, c.loop-connection.invariant.counted, c.room-bytes.ensures.room, sum_next (λ i. load_room load.seed load.requests i) c.loop-connection.connection);
+      counted = omega (
+        arith,
+        c.loop-connection.invariant.counted,
+        c.room-bytes.ensures.room,
+        sum_next (λ i. load_room load.seed load.requests i) c.loop-connection.connection,
+      );
       most = omega (arith, few, c.loop-connection.invariant.most, c.room-bytes.ensures.most);
     }
 
@@ -24,9 +29,12 @@ returns-clause-total c =
     let few = (ranges load.seed load.connections load.requests load.in_range).requests_fit in
     let all : c.loop-connection.connection ≡ load.connections = omega arith in
     let numbers = range_with_len 0 load.connections in
-    let finals : load.connections * load.requests ≡ sum_by (λ i. finals_of (load_input load.seed load.requests i)) numbers =
-    sym (sum_same load.requests 0 load.connections) ∙ sym (λ k. sum_by (λ i. c.each_request_is_answered.ensures.finals load.seed load.requests i few k) numbers) in
-    let bytes : c.loop-connection.bytes ≡ sum_by (λ i. length (load_answers load.seed load.requests i)) numbers =
+    let finals : load.connections * load.requests
+    ≡ sum_by (λ i. finals_of (load_input load.seed load.requests i)) numbers =
+    sym (sum_same load.requests 0 load.connections) ∙ sym
+    (λ k. sum_by (λ i. c.each_request_is_answered.ensures.finals load.seed load.requests i few k) numbers) in
+    let bytes : c.loop-connection.bytes
+    ≡ sum_by (λ i. length (load_answers load.seed load.requests i)) numbers =
     c.loop-connection.invariant.counted
     ∙ ap (λ (n : ℕ). sum_by (λ i. load_room load.seed load.requests i) (range_with_len 0 n)) all
     ∙ sym (λ k. sum_by (λ i. c.answers_fill_the_room.ensures load.seed load.requests i few k) numbers) in

@@ -7,6 +7,7 @@ use Rattle.warp_load.proofs.sums.room.Given as goal
 -- the answers so far are counted
 abbrev pub invariant-loop-request : goal.invariant-loop-request
 invariant-loop-request l = record {
-  counted : l.bytes ≡ sum_by answer_length (request_kinds l.load.seed l.request l.connection) + closing_length l.load.requests;
+  counted : l.bytes ≡ sum_by answer_length (request_kinds l.load.seed l.request l.connection)
+      + closing_length l.load.requests;
   most : l.bytes ≤ 40141 * l.request + 19;
 }

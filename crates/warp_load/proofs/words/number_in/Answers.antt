@@ -19,7 +19,8 @@ unfolding number_read
 returns-then-is_number c =
     let word = c.args.word.now in
     let number : is_number word ≡ true = sym c.if-is_number.ensures in
-    let parts = and_parts (nat_le 1 (length word) && nat_le (length word) 10) (list_all is_ascii_digit word) number in
+    let parts =
+    and_parts (nat_le 1 (length word) && nat_le (length word) 10) (list_all is_ascii_digit word) number in
     let bounds = and_parts (nat_le 1 (length word)) (nat_le (length word) 10) parts.0 in
     let some : 1 ≤ length word = at_most 1 (length word) bounds.0 in
     let few : length word ≤ 10 = at_most (length word) 10 bounds.1 in

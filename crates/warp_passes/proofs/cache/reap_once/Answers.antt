@@ -11,7 +11,8 @@ returns-in-Done-Reaped-clause-cached g c =
     let v = view_of c.args.pass.now in
     let w = view_of c.step.new.pass in
     reaped c.in-Done-Reaped.closed v w
-    (subst (λ d. EnteredIn d v w) (ap (λ r. deed_of (Calls.Reap c.args.basket) r) c.in-Done-Reaped.field-0-is) c.in-Done-Reaped.ensures.step.0)
+    (subst (λ d. EnteredIn d v w) (ap (λ r. deed_of (Calls.Reap c.args.basket) r) c.in-Done-Reaped.field-0-is)
+    c.in-Done-Reaped.ensures.step.0)
 
 pub returns-in-Spent-Reap-clause-cached : goal.returns-in-Spent-Reap-clause-cached
 returns-in-Spent-Reap-clause-cached g c =

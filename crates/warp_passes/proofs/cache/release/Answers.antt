@@ -4,4 +4,5 @@ use Rattle.warp_passes.proofs.cache.release.Goals as goal
 
 pub returns-clause-cached : goal.returns-clause-cached
 returns-clause-cached g c =
-    given_back c.args.lease c.release.result (view_of c.args.pass.now) (view_of c.release.new.pass) c.release.ensures.gave_back
+    given_back c.args.lease c.release.result (view_of c.args.pass.now)
+    (view_of c.release.new.pass) c.release.ensures.gave_back

@@ -13,13 +13,17 @@ loop-init g c =
     let p = c.in_ok-shared.first in
     let e = c.in_ok-shared.ensures in
     let law = c.manager_passes_are_split_cell_by_cell.ensures.first in
-    let it : c.push_reserved.new.self.items ≡ p ∷ [] = one_item c.in_ok-passes.passes.items c.push_reserved.new.self.items p c.in_ok-passes.ensures.items c.push_reserved.ensures.items in record {
+    let it : c.push_reserved.new.self.items ≡ p ∷ [] = one_item c.in_ok-passes.passes.items
+    c.push_reserved.new.self.items p c.in_ok-passes.ensures.items c.push_reserved.ensures.items in
+    record {
       some = omega arith;
       count = search rules;
       room = search rules;
       new = subst (AreNewPasses s) (sym it) (record {
         own = All-cons (λ q. AreOf s q) p [] e.own (All-nil (λ q. AreOf s q));
-        new = All-cons (λ q. IsNew (pass_view q)) p [] (first_new law (pass_view p) e.first) (All-nil (λ q. IsNew (pass_view q)));
+        new =
+            All-cons (λ q. IsNew (pass_view q)) p [] (first_new law (pass_view p) e.first)
+            (All-nil (λ q. IsNew (pass_view q)));
         seats = c.split_passes_hold_all_seats.ensures.first p (first_known law (pass_view p) e.first);
       });
     }
@@ -37,7 +41,8 @@ loop-preserved g c =
     let count = v.count in
     let first = v.some in
     let some : 0 < length ps = omega arith in
-    let at : slice_get ps 0 ≡ Some p = slice_get_read ps (length ps) 0 p refl some c.index_mut-first.ensures.value in
+    let at : slice_get ps 0 ≡ Some p =
+    slice_get_read ps (length ps) 0 p refl some c.index_mut-first.ensures.value in
     let there = get_or_from_slice_get ps 0 p p at in
     let own = subst (λ q. AreOf s q) there (v.new.own 0 p some) in
     let new = subst (λ q. IsNew (pass_view q)) there (v.new.new 0 p some) in
@@ -50,8 +55,11 @@ loop-preserved g c =
         own = All-append (λ q. AreOf s q) _ _ (All-set (λ q. AreOf s q) ps 0 p' c.split.ensures.own v.new.own)
             (All-cons (λ q. AreOf s q) o [] c.in_ok-other.ensures.other (All-nil (λ q. AreOf s q)));
         new = All-append (λ q. IsNew (pass_view q)) _ _
-            (All-set (λ q. IsNew (pass_view q)) ps 0 p' (left_new law (pass_view p) (pass_view p') (pass_view o) lawful cut new) v.new.new)
-            (All-cons (λ q. IsNew (pass_view q)) o [] (right_new law (pass_view p) (pass_view p') (pass_view o) lawful cut new) (All-nil (λ q. IsNew (pass_view q))));
+            (All-set (λ q. IsNew (pass_view q)) ps 0 p'
+            (left_new law (pass_view p) (pass_view p') (pass_view o) lawful cut new) v.new.new)
+            (All-cons (λ q. IsNew (pass_view q)) o
+            [] (right_new law (pass_view p) (pass_view p') (pass_view o) lawful cut new)
+            (All-nil (λ q. IsNew (pass_view q))));
         seats = c.split_passes_hold_all_seats.ensures.more ps 0 p p' o at
             (split_known law (pass_view p) (pass_view p') (pass_view o) lawful cut) v.new.seats;
       });

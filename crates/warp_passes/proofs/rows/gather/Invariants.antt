@@ -7,6 +7,7 @@ abbrev pub invariant-loop-other : goal.invariant-loop-other
 invariant-loop-other g l = let m = g.P.ShareRow.meaning.passes in record {
   own : AllAreOf m l.of (l.first ∷ l.other-items);
   keeps : KeepOwn m (l.fn.first ∷ l.fn.others) (l.first ∷ l.other-items);
-  rest : map g.P.ShareRow.meaning.rest (l.first ∷ l.other-items) ≡ map g.P.ShareRow.meaning.rest (l.fn.first ∷ l.fn.others);
+  rest : map g.P.ShareRow.meaning.rest (l.first ∷ l.other-items)
+      ≡ map g.P.ShareRow.meaning.rest (l.fn.first ∷ l.fn.others);
   gathered : AreGathered m (l.fn.first ∷ l.fn.others) (suc l.other-index) (l.first ∷ l.other-items);
 }

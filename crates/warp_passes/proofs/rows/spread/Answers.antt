@@ -4,10 +4,11 @@ use Rattle.std.proofs.lemmas.Option.{slice_get-get_or}
 use Rattle.level.specs.Leveling.{seen_by}
 use Rattle.level.specs.Meanings.{views}
 use Rattle.level.specs.Gathering.{Spread}
-use Rattle.level.proofs.Lists.{All-head, All-get, All-tail}
-use Rattle.level.proofs.Sharing.{keep_refl, keep_trans, own_both, spread_keeps, spread_shares}
+use Rattle.std.proofs.lemmas.List.Elements.{All-head, All-tail}
+use Rattle.level.specs.ListLaws.{All-get}
+use Rattle.level.specs.Laws.{keep_refl, keep_trans, own_stay_own, spread_keeps, spread_shares, tells_one_more}
+use Rattle.level.specs.Laws.{all_told_start}
 use Rattle.warp_passes.proofs.RowRest.{rest_both}
-use Rattle.level.proofs.Levels.{spreads, all_told_start}
 use Rattle.warp_passes.proofs.rows.spread.Goals as goal
 
 pub loop-other-init : goal.loop-other-init
@@ -19,17 +20,23 @@ loop-other-init g c = let m = g.P.ShareRow.meaning.passes in record {
 }
 
 pub share_row-requires-clause-to : goal.share_row-requires-clause-to
-share_row-requires-clause-to g c = let m = g.P.ShareRow.meaning.passes in let v = c.loop-other.invariant in
+share_row-requires-clause-to g c =
+    let m = g.P.ShareRow.meaning.passes in
+    let v = c.loop-other.invariant in
     let lt = c.loop-other-test.true in
     let many = c.loop-other.auto.other-items in
-    let at = slice_get-get_or c.loop-other.other-items c.loop-other.other-index c.other-item.result (omega arith) in
+    let at =
+    slice_get-get_or c.loop-other.other-items c.loop-other.other-index c.other-item.result (omega arith) in
     All-get (m.is_of c.args.of.now) _ _ _ at (All-tail (m.is_of c.args.of.now) _ _ v.own)
 
 pub share_row-requires-clause-from : goal.share_row-requires-clause-from
-share_row-requires-clause-from g c = All-head (g.P.ShareRow.meaning.passes.is_of c.args.of.now) _ _ c.loop-other.invariant.own
+share_row-requires-clause-from g c =
+    All-head (g.P.ShareRow.meaning.passes.is_of c.args.of.now) _ _ c.loop-other.invariant.own
 
 pub loop-other-preserved : goal.loop-other-preserved
-loop-other-preserved g c = let m = g.P.ShareRow.meaning.passes in let v = c.loop-other.invariant in
+loop-other-preserved g c =
+    let m = g.P.ShareRow.meaning.passes in
+    let v = c.loop-other.invariant in
     let lt = c.loop-other-test.true in
     let f = c.loop-other.first in
     let f' = c.share_row.new.from in
@@ -40,11 +47,23 @@ loop-other-preserved g c = let m = g.P.ShareRow.meaning.passes in let v = c.loop
     let many = c.loop-other.auto.other-items in
     let at : slice_get ps i ≡ Some p = slice_get-get_or ps i c.other-item.result (omega arith) in
     let next : suc i + 1 ≡ suc (i + 1) = omega arith in record {
-      own = own_both m c.args.of.now f f' ps i p p' at c.share_row.ensures.from c.share_row.ensures.to v.own;
-      keeps = keep_trans m (c.args.first.now ∷ c.args.others.now) (f ∷ ps) (f' ∷ set ps i p') v.keeps (spread_keeps m f f' ps i p p' at c.share_row.ensures.shared);
-      rest = rest_both g.P.ShareRow.meaning.rest f f' ps i p p' at c.share_row.ensures.rest c.share_row.ensures.other_rest ∙ v.rest;
-      told = λ olds gathered k. subst (λ n. Spread (map seen_by (views m k olds)) n (map seen_by (views m k (f' ∷ set ps i p')))) next
-          (spreads (map seen_by (views m k olds)) (suc i) (map seen_by (views m k (f ∷ ps))) (map seen_by (views m k (f' ∷ set ps i p'))) (omega arith) (v.told olds gathered k) (spread_shares m f f' ps i p p' at c.share_row.ensures.shared k));
+      own =
+          own_stay_own m c.args.of.now f f' ps i p p' at c.share_row.ensures.from
+          c.share_row.ensures.to v.own;
+      keeps =
+          keep_trans m (c.args.first.now ∷ c.args.others.now) (f ∷ ps) (f' ∷ set ps i p') v.keeps
+          (spread_keeps m f f' ps i p p' at c.share_row.ensures.shared);
+      rest =
+          rest_both g.P.ShareRow.meaning.rest f f' ps i p p' at
+          c.share_row.ensures.rest c.share_row.ensures.other_rest
+          ∙ v.rest;
+      told =
+          λ olds gathered k.
+          subst (λ n. Spread (map seen_by (views m k olds)) n (map seen_by (views m k (f' ∷ set ps i p'))))
+          next
+          (tells_one_more (map seen_by (views m k olds)) (suc i) (map seen_by (views m k (f ∷ ps)))
+          (map seen_by (views m k (f' ∷ set ps i p'))) (omega arith) (v.told olds gathered k)
+          (spread_shares m f f' ps i p p' at c.share_row.ensures.shared k));
     }
 
 pub returns-clause-told : goal.returns-clause-told
@@ -53,4 +72,7 @@ returns-clause-told g c = let m = g.P.ShareRow.meaning.passes in
     let most = c.loop-other.auto.other-index-end in
     let many = c.loop-other.auto.other-items in
     let all : suc c.loop-other.other-index ≡ suc (length c.loop-other.other-items) = omega arith in
-    λ olds gathered k. subst (λ n. Spread (map seen_by (views m k olds)) n (map seen_by (views m k (c.loop-other.first ∷ c.loop-other.other-items)))) all (c.loop-other.invariant.told olds gathered k)
+    λ olds gathered k.
+    subst (λ n. Spread (map seen_by (views m k olds)) n
+    (map seen_by (views m k (c.loop-other.first ∷ c.loop-other.other-items))))
+    all (c.loop-other.invariant.told olds gathered k)

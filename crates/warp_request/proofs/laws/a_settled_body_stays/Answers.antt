@@ -1,5 +1,5 @@
-use Rattle.warp_request.proofs.BodyGrowthLemmas.{body_stays, body_within}
-use Rattle.warp_request.proofs.StatusLemmas.{body_status}
+use Rattle.warp_request.specs.BodyGrowthLaws.{body_stays, body_within}
+use Rattle.warp_request.specs.StatusLaws.{body_status}
 use Rattle.warp_request.proofs.laws.a_settled_body_stays.Goals as goal
 
 pub returns-clause-stays : goal.returns-clause-stays

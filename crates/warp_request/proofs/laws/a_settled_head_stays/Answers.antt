@@ -1,5 +1,5 @@
-use Rattle.warp_request.proofs.GrowthLemmas.{next_stays}
-use Rattle.warp_request.proofs.NextLaws.{next_tells}
+use Rattle.warp_request.specs.GrowthLaws.{next_stays}
+use Rattle.warp_request.specs.NextLaws.{next_tells}
 use Rattle.warp_request.proofs.laws.a_settled_head_stays.Goals as goal
 
 pub returns-clause-stays : goal.returns-clause-stays

@@ -14,7 +14,12 @@ pub loop-at-preserved : goal.loop-at-preserved
 loop-at-preserved c =
     let is : c.line_end_len-len.result ≡ line_end_len (drop c.loop-at.at c.args.bytes.now) =
     c.line_end_len-len.ensures.is ∙ ap line_end_len (take_rest c.args.bytes.now c.loop-at.at) in (
-      omega (arith, simp take_rest at c.line_end_len-len.ensures.within, length-drop c.loop-at.at c.args.bytes.now, c.loop-at.invariant.0),
+      omega (
+        arith,
+        simp take_rest at c.line_end_len-len.ensures.within,
+        length-drop c.loop-at.at c.args.bytes.now,
+        c.loop-at.invariant.0,
+      ),
       ap (λ (n : ℕ). skip_empty (drop (c.loop-at.at + n) c.args.bytes.now)) is
           ∙ skip_on c.args.bytes.now c.loop-at.at c.loop-at.invariant.1,
     )

@@ -1,5 +1,6 @@
 -- The table is held against the definition at each of the 256 bytes, by computing.
-use Rattle.std.proofs.Common.{◌≡◌, ℕ, zero, suc, ◌<◌, Bool, true, false, ◌&&◌, not, nat_eq, get_or, List, refl, arith, inl, inr}
+use Rattle.std.proofs.Common.{◌≡◌, ℕ, zero, suc, ◌<◌, Bool, true, false, ◌&&◌, not, nat_eq, get_or, List}
+use Rattle.std.proofs.Common.{refl, arith, inl, inr}
 use Rattle.std.specs.Bool.{beq}
 use Rattle.std.proofs.lemmas.Bool.{cases_eq}
 use Rattle.warp_request.specs.declared.values.TheConstants.{HOST_MAP}
@@ -24,7 +25,8 @@ agree_at f g (suc n) h b lt =
     let both = both_of (f n) (g n) (agree_below f g n) h in
     elim (cases_eq b n) [ inl same ↦ rw same both.0 | inr other ↦ agree_at f g n both.1 b (omega arith) ]
 
-from_table : (table : List ℕ) (b : ℕ) → b < 256 → agree_below (λ k. not (nat_eq (get_or table k 0) 32)) is_host_byte 256 ≡ true
+from_table : (table : List ℕ) (b : ℕ) → b < 256
+    → agree_below (λ k. not (nat_eq (get_or table k 0) 32)) is_host_byte 256 ≡ true
     → not (nat_eq (get_or table b 0) 32) ≡ is_host_byte b
 from_table table b lt h = agree_at _ _ 256 h b lt
 

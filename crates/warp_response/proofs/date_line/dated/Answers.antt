@@ -13,7 +13,8 @@ shown moment early = let test : nat_lt moment first_undated ≡ true = grind (ar
 
 pub invariant_of-result : goal.invariant_of-result
 invariant_of-result c =
-    let is : date_text c.args.date ≡ date_of c.args.moment = date_is c.args.date c.args.moment c.requires.early c.requires.same in
+    let is : date_text c.args.date ≡ date_of c.args.moment =
+    date_is c.args.date c.args.moment c.requires.early c.requires.same in
     record {
       within = omega arith;
       shows =

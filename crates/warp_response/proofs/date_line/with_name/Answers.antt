@@ -8,7 +8,8 @@ joins : (date one two three : List ℕ) → length date ≡ 29 → length three 
 joins date one two three long all first second third =
     let e : 6 + length date ≡ 35 = omega (arith, long) in
     sym (take_all 37 three (omega (arith, all))) ∙ third
-    ∙ ap (λ (l : List ℕ). l ++ codes "\r\n") (sym (ap (λ (n : ℕ). take n two) e) ∙ second ∙ ap (λ (l : List ℕ). l ++ date) first)
+    ∙ ap (λ (l : List ℕ). l ++ codes "\r\n")
+    (sym (ap (λ (n : ℕ). take n two) e) ∙ second ∙ ap (λ (l : List ℕ). l ++ date) first)
 
 pub returns : goal.returns
 returns c =

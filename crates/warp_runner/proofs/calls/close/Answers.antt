@@ -12,7 +12,10 @@ returns-clause-closed g c =
     let rules = c.calls_of_runs.ensures in
     let weighs = c.calls_weigh.ensures in
     elim c.match-close_fd.branch [
-      | in-Shut w ↦ subst (λ r. HasClosedIt c.args.opening v r u) (sym w.result-is) (did_shut g.T.Load.tag rules weighs c.args.opening v u w.in-Shut.field-0 w.in-Shut.ensures.step)
-      | in-NotOpen w ↦ subst (λ r. HasClosedIt c.args.opening v r u) (sym w.result-is) (did_not_open g.T.Load.tag rules weighs c.args.opening v u w.in-NotOpen.ensures.step)
-      | in-Spent w ↦ subst (λ r. HasClosedIt c.args.opening v r u) (sym w.result-is) (did_close_spent g.T.Load.tag rules weighs c.args.opening v u w.in-Spent.ensures.step)
+      | in-Shut w ↦ subst (λ r. HasClosedIt c.args.opening v r u) (sym w.result-is)
+          (did_shut g.T.Load.tag rules weighs c.args.opening v u w.in-Shut.field-0 w.in-Shut.ensures.step)
+      | in-NotOpen w ↦ subst (λ r. HasClosedIt c.args.opening v r u) (sym w.result-is)
+          (did_not_open g.T.Load.tag rules weighs c.args.opening v u w.in-NotOpen.ensures.step)
+      | in-Spent w ↦ subst (λ r. HasClosedIt c.args.opening v r u) (sym w.result-is)
+          (did_close_spent g.T.Load.tag rules weighs c.args.opening v u w.in-Spent.ensures.step)
     ]

@@ -16,12 +16,15 @@ returns-in-Cancelled g c =
     let same = c.loop.invariant.same in record {
       own = c.cancel.ensures.own;
       cancels = elim c.in-Cancelled.is [
-        | inl is ↦ tried_last w before now later (Cancel w Cancels.Cancelled) (inl refl) c.loop.invariant.tried
+        | inl is ↦
+            tried_last w before now later (Cancel w Cancels.Cancelled) (inl refl) c.loop.invariant.tried
             (subst (λ (n : WatchName). later ≡ now ++ Cancel n Cancels.Cancelled ∷ []) same
-            (subst (λ r. HasCancelled c.loop.left (seen_of c.loop.pass) r (seen_of c.cancel.new.pass)) is c.cancel.ensures.cancels).call)
+            (subst (λ r. HasCancelled c.loop.left (seen_of c.loop.pass) r (seen_of c.cancel.new.pass))
+            is c.cancel.ensures.cancels).call)
         | inr is ↦ tried_last w before now later (Cancel w Cancels.Gone) (inr refl) c.loop.invariant.tried
             (subst (λ (n : WatchName). later ≡ now ++ Cancel n Cancels.Gone ∷ []) same
-            (subst (λ r. HasCancelled c.loop.left (seen_of c.loop.pass) r (seen_of c.cancel.new.pass)) is c.cancel.ensures.cancels).call)
+            (subst (λ r. HasCancelled c.loop.left (seen_of c.loop.pass) r (seen_of c.cancel.new.pass))
+            is c.cancel.ensures.cancels).call)
       ];
     }
 
@@ -30,6 +33,9 @@ loop-preserved g c =
     let w = name_of_watch c.args.watch in record {
       own = c.cancel.ensures.own;
       same = ap (λ x. name_of_watch x) c.in-Again.ensures.cancels.0 ∙ c.loop.invariant.same;
-      tried = tried_more w (calls_of (seen_of c.args.pass.now)) (calls_of (seen_of c.loop.pass)) (calls_of (seen_of c.cancel.new.pass)) c.loop.invariant.tried
-          (subst (λ (n : WatchName). calls_of (seen_of c.cancel.new.pass) ≡ calls_of (seen_of c.loop.pass) ++ Cancel n Cancels.Again ∷ []) c.loop.invariant.same c.in-Again.ensures.cancels.1.2.call);
+      tried =
+          tried_more w (calls_of (seen_of c.args.pass.now)) (calls_of (seen_of c.loop.pass))
+          (calls_of (seen_of c.cancel.new.pass)) c.loop.invariant.tried
+          (subst (λ (n : WatchName). calls_of (seen_of c.cancel.new.pass) ≡ calls_of (seen_of c.loop.pass)
+          ++ Cancel n Cancels.Again ∷ []) c.loop.invariant.same c.in-Again.ensures.cancels.1.2.call);
     }

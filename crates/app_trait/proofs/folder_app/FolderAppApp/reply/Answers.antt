@@ -16,27 +16,36 @@ returns-in-Head-clause-is c = rw (← c.in-Head.ensures) c.file_move-in-Head.ens
 
 pub returns-in-Options-clause-is : goal.returns-in-Options-clause-is
 unfolding folder_move
-returns-in-Options-clause-is c = rw (← c.in-Options.ensures) (ap answer (c.plain.ensures.is c.args.request.now.target.now))
+returns-in-Options-clause-is c =
+    rw (← c.in-Options.ensures) (ap answer (c.plain.ensures.is c.args.request.now.target.now))
 
 pub returns-in-Options-clause-fits : goal.returns-in-Options-clause-fits
 returns-in-Options-clause-fits c = c.plain.ensures.fits c.args.request.now.target.now c.args.seen
 
 pub returns-in-Refused-clause-is : goal.returns-in-Refused-clause-is
 unfolding folder_move
-returns-in-Refused-clause-is c = rw (← c.in-Refused.ensures) (ap answer (c.plain-in-Refused.ensures.is c.args.request.now.target.now))
+returns-in-Refused-clause-is c =
+    rw (← c.in-Refused.ensures) (ap answer (c.plain-in-Refused.ensures.is c.args.request.now.target.now))
 
 pub returns-in-Refused-clause-fits : goal.returns-in-Refused-clause-fits
 returns-in-Refused-clause-fits c = c.plain-in-Refused.ensures.fits c.args.request.now.target.now c.args.seen
 
 pub returns-in-Unknown-clause-is : goal.returns-in-Unknown-clause-is
 unfolding folder_move
-returns-in-Unknown-clause-is c = rw (← c.in-Unknown.ensures) (ap answer (c.plain-in-Unknown.ensures.is c.args.request.now.target.now))
+returns-in-Unknown-clause-is c =
+    rw (← c.in-Unknown.ensures) (ap answer (c.plain-in-Unknown.ensures.is c.args.request.now.target.now))
 
 pub returns-in-Unknown-clause-fits : goal.returns-in-Unknown-clause-fits
 returns-in-Unknown-clause-fits c = c.plain-in-Unknown.ensures.fits c.args.request.now.target.now c.args.seen
 
 pub file_move-requires : goal.file_move-requires
-file_move-requires c = record { kept = kept_of (text_of c.args.request.now) Get c.args.seen c.args.path.now c.in-Get.ensures c.requires.kept }
+file_move-requires c = record {
+  kept =
+      kept_of (text_of c.args.request.now) Get c.args.seen c.args.path.now c.in-Get.ensures c.requires.kept;
+}
 
 pub file_move-requires-in-Head : goal.file_move-requires-in-Head
-file_move-requires-in-Head c = record { kept = kept_of (text_of c.args.request.now) Head c.args.seen c.args.path.now c.in-Head.ensures c.requires.kept }
+file_move-requires-in-Head c = record {
+  kept =
+      kept_of (text_of c.args.request.now) Head c.args.seen c.args.path.now c.in-Head.ensures c.requires.kept;
+}

@@ -7,11 +7,14 @@ use Rattle.conn_loop.proofs.conn.Conn.read_part.Goals as goal
 pub invariant_of-self : goal.invariant_of-self
 invariant_of-self g c =
     let inside = c.self.inside in
-    let size_of : Option (Lease g.row.F.Denot g.row.F-File.Denot g.F.Files) → Option ℕ = λ o. option_map (λ lease. lease.size) o in
-    let held : size_of inside.lease ≡ Some c.in-Sending.size = subst (λ (p : Phase). HasLease p (size_of inside.lease)) c.in-Sending.is c.self.invariant.3 in
+    let size_of : Option (Lease g.row.F.Denot g.row.F-File.Denot g.F.Files) → Option ℕ =
+    λ o. option_map (λ lease. lease.size) o in
+    let held : size_of inside.lease ≡ Some c.in-Sending.size =
+    subst (λ (p : Phase). HasLease p (size_of inside.lease)) c.in-Sending.is c.self.invariant.3 in
     let lease : Some c.in-Some.lease ≡ inside.lease = sym c.in-Some.is in (
       c.self.invariant.0,
       c.self.invariant.1,
       c.phase_read-self-inside.ensures.1 _ _,
-      c.phase_read-self-inside.ensures.3 _ (ap (λ (n : ℕ). Some n) c.part-part.ensures.size ∙ ap (λ (o : Option (Lease g.row.F.Denot g.row.F-File.Denot g.F.Files)). size_of o) lease ∙ held),
+      c.phase_read-self-inside.ensures.3 _ (ap (λ (n : ℕ). Some n) c.part-part.ensures.size
+          ∙ ap (λ (o : Option (Lease g.row.F.Denot g.row.F-File.Denot g.F.Files)). size_of o) lease ∙ held),
     )

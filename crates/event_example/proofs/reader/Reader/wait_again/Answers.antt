@@ -12,4 +12,5 @@ returns-clause-made g c =
     let before = mgr_view c.args.pass.now in
     let after = mgr_view c.register-reply.new.pass in
     subst (λ (events : List EventName). HasMadeCalls before events after) (sym c.events_of_reply.ensures)
-    (c.calls_of_runs.ensures.registered c.args.job.opening Read (Some c.args.mark) (Payloads.Job c.args.job) before c.register-reply.result after c.register-reply.ensures.step)
+    (c.calls_of_runs.ensures.registered c.args.job.opening Read (Some c.args.mark)
+    (Payloads.Job c.args.job) before c.register-reply.result after c.register-reply.ensures.step)

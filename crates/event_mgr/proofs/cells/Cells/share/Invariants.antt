@@ -8,5 +8,6 @@ invariant-loop-stripe g l = record {
   end : l.stripe-end ≡ length l.self.cells.items;
   from : AreOf l.self l.from;
   to : AreOf l.self l.to;
-  beside : Beside SharesTo l.fn.from.passes.items l.fn.to.passes.items l.from.passes.items l.to.passes.items l.stripe;
+  beside : Beside SharesTo l.fn.from.passes.items l.fn.to.passes.items l.from.passes.items
+      l.to.passes.items l.stripe;
 }

@@ -5,4 +5,8 @@ use Rattle.event_mgr.proofs.Places.{at_map}
 use Rattle.event_mgr.proofs.cells.Cells.try_call.Goals as goal
 
 pub returns-clause-step : goal.returns-clause-step
-returns-clause-step g c = at_map view_of _ c.args.pass.now.passes.items c.args.stripe c.index_mut-mine.result.now c.try_step.new.pass (slice_get_read _ _ _ c.index_mut-mine.result.now (sym c.requires.own.passes) c.requires.stripe c.index_mut-mine.ensures.value) c.try_step.ensures.step
+returns-clause-step g c =
+    at_map view_of _ c.args.pass.now.passes.items c.args.stripe
+    c.index_mut-mine.result.now c.try_step.new.pass
+    (slice_get_read _ _ _ c.index_mut-mine.result.now
+    (sym c.requires.own.passes) c.requires.stripe c.index_mut-mine.ensures.value) c.try_step.ensures.step

@@ -9,13 +9,18 @@ pub returns-then-left-eq0 : goal.returns-then-left-eq0
 returns-then-left-eq0 c out b =
     let read = read_word _ _ _ b.many c.requires.within.0 c.index.ensures in
     out_put out _ _ _ _ _ _ b c.requires.within.0 c.requires.within.1
-    c.without_bit-left.ensures.cleared (λ k wk e. c.without_bit-left.ensures.others k wk e ∙ ap (λ x. bit_at x k) (sym read))
-    (ap (λ x. x == 0) (c.without_bit-self.ensures.cleared ∙ sym c.if-left-eq0.true)) c.without_bit-self.ensures.others
+    c.without_bit-left.ensures.cleared
+    (λ k wk e. c.without_bit-left.ensures.others k wk e ∙ ap (λ x. bit_at x k) (sym read))
+    (ap (λ x. x == 0) (c.without_bit-self.ensures.cleared ∙ sym c.if-left-eq0.true))
+    c.without_bit-self.ensures.others
 
 pub returns-else-left-eq0 : goal.returns-else-left-eq0
 returns-else-left-eq0 c out b =
     let read = read_word _ _ _ b.many c.requires.within.0 c.index.ensures in
-    let some = was_some c.index.result.now _ _ c.without_bit-left.type_inv c.without_bit-left.ensures.cleared c.without_bit-left.ensures.others c.if-left-eq0.false in
+    let some = was_some c.index.result.now _ _ c.without_bit-left.type_inv c.without_bit-left.ensures.cleared
+    c.without_bit-left.ensures.others c.if-left-eq0.false in
     out_put out _ _ _ _ _ _ b c.requires.within.0 c.requires.within.1
-    c.without_bit-left.ensures.cleared (λ k wk e. c.without_bit-left.ensures.others k wk e ∙ ap (λ x. bit_at x k) (sym read))
-    (b.empty _ c.requires.within.0 ∙ ap (λ x. x == 0) read ∙ ne_eqb _ 0 some ∙ sym (ne_eqb _ 0 c.if-left-eq0.false)) (λ k wk e. refl)
+    c.without_bit-left.ensures.cleared
+    (λ k wk e. c.without_bit-left.ensures.others k wk e ∙ ap (λ x. bit_at x k) (sym read))
+    (b.empty _ c.requires.within.0 ∙ ap (λ x. x == 0) read ∙ ne_eqb _ 0 some
+    ∙ sym (ne_eqb _ 0 c.if-left-eq0.false)) (λ k wk e. refl)

@@ -10,7 +10,8 @@ pub lowest_bit-bit-requires : goal.lowest_bit-bit-requires
 lowest_bit-bit-requires c =
     let b = c.requires.1 in
     let read = read_word _ _ _ b.many c.lowest_bit-place.ensures.within c.index.ensures in
-    subst (λ w. 0 < w) read (word_left _ _ _ _ b c.lowest_bit-place.ensures.within c.lowest_bit-place.ensures.set)
+    subst (λ w. 0 < w) read
+    (word_left _ _ _ _ b c.lowest_bit-place.ensures.within c.lowest_bit-place.ensures.set)
 
 pub returns-clause-taken : goal.returns-clause-taken
 returns-clause-taken c out b =

@@ -6,12 +6,24 @@ use Rattle.event_mgr.proofs.ManagerLemmas.{named_views, called, called_lawful}
 use Rattle.event_mgr.proofs.manager.EventManager.ask_stripe.Goals as goal
 
 pub returns-clause-own : goal.returns-clause-own
-returns-clause-own g c = let w : MgrView = record { stripes = views_of c.call.new.pass; numbers = view_of c.args.pass.now.numbers } in record {
-  stripes = c.call.ensures.own;
-  numbers = c.requires.own.numbers;
-  lawful = called_lawful g.T.Load.tag c.args.call c.legal_names_own_openings.ensures c.args.stripe c.requires.stripe c.requires.may (mgr_view c.args.pass.now) w refl (named_views c.args.pass.now.stripes.passes.items c.requires.own.stripes.names) c.requires.own.lawful c.call.result c.call.ensures.step;
-}
+returns-clause-own g c =
+    let w : MgrView =
+    record { stripes = views_of c.call.new.pass; numbers = view_of c.args.pass.now.numbers } in
+    record {
+      stripes = c.call.ensures.own;
+      numbers = c.requires.own.numbers;
+      lawful =
+          called_lawful g.T.Load.tag c.args.call c.legal_names_own_openings.ensures
+          c.args.stripe c.requires.stripe c.requires.may (mgr_view c.args.pass.now) w refl
+          (named_views c.args.pass.now.stripes.passes.items c.requires.own.stripes.names)
+          c.requires.own.lawful c.call.result c.call.ensures.step;
+    }
 
 pub returns-clause-step : goal.returns-clause-step
-returns-clause-step g c = let w : MgrView = record { stripes = views_of c.call.new.pass; numbers = view_of c.args.pass.now.numbers } in
-    called g.T.Load.tag c.args.call c.legal_names_own_openings.ensures c.args.stripe c.requires.stripe c.requires.may (mgr_view c.args.pass.now) w refl (named_views c.args.pass.now.stripes.passes.items c.requires.own.stripes.names) c.call.result c.call.ensures.step
+returns-clause-step g c =
+    let w : MgrView =
+    record { stripes = views_of c.call.new.pass; numbers = view_of c.args.pass.now.numbers } in
+    called g.T.Load.tag c.args.call c.legal_names_own_openings.ensures c.args.stripe
+    c.requires.stripe c.requires.may (mgr_view c.args.pass.now) w refl
+    (named_views c.args.pass.now.stripes.passes.items c.requires.own.stripes.names)
+    c.call.result c.call.ensures.step

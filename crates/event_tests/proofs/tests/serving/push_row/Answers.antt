@@ -8,4 +8,5 @@ use Rattle.event_tests.proofs.tests.serving.push_row.Goals as goal
 pub returns : goal.returns
 returns c =
     let Kept : Row → Type 0 = λ row. ServesRow c.args.mgr.now c.args.queue.now row.pass row.kit.book in
-    subst (λ (rows : List Row). All Kept rows) (sym c.in_ok-push.ensures.items) (All-push Kept c.args.rows.now.items c.args.row c.requires.rows c.requires.row)
+    subst (λ (rows : List Row). All Kept rows) (sym c.in_ok-push.ensures.items)
+    (All-push Kept c.args.rows.now.items c.args.row c.requires.rows c.requires.row)

@@ -11,13 +11,18 @@ pub returns-then-is_leased_out-clause-enters : goal.returns-then-is_leased_out-c
 returns-then-is_leased_out-clause-enters g c = λ past r.
     let x = string_bytes c.args.path in
     let shelf = c.args.self.now.shelf in
-    let out = leased_out x (at c.args.k shelf) c.requires.there (c.is_leased_out.ensures.full.0 c.if-is_leased_out.true) in
+    let out = leased_out x (at c.args.k shelf) c.requires.there
+    (c.is_leased_out.ensures.full.0 c.if-is_leased_out.true) in
     let full = subst (λ p. IsSomeAnd p (IsLeasedOut x)) (sym (r.entries c.args.k)) out in
     entered (Deeds.Bypass x) past shelf shelf r (inl (c.args.k, full)) (λ e. refl)
 
 pub invariant_of-self : goal.invariant_of-self
 invariant_of-self g c =
     record {
-      own = rw c.lend.ensures.lent (own_set _ c.args.self.now.shelf c.args.k _ (omega (arith, c.requires.inside, c.lend.ensures.size)) c.args.self.now.own
-          (own_lent _ c.args.k (at c.args.k c.args.self.now.shelf) (λ s i l. c.args.self.now.own c.args.k s i l)));
+      own =
+          rw c.lend.ensures.lent
+          (own_set _ c.args.self.now.shelf c.args.k _
+          (omega (arith, c.requires.inside, c.lend.ensures.size)) c.args.self.now.own
+          (own_lent _ c.args.k (at c.args.k c.args.self.now.shelf)
+          (λ s i l. c.args.self.now.own c.args.k s i l)));
     }

@@ -10,4 +10,6 @@ returns g c = λ past r.
     (c.reap.ensures.closed ∙ sym (closed_same 256 _ _ r.entries)) (λ e. sym (c.reap.ensures.swept e))
 
 pub invariant_of-self : goal.invariant_of-self
-invariant_of-self g c = record { own = own_swept _ c.args.self.now.shelf c.reap.new.self c.args.self.now.own c.reap.ensures.swept }
+invariant_of-self g c = record {
+  own = own_swept _ c.args.self.now.shelf c.reap.new.self c.args.self.now.own c.reap.ensures.swept;
+}

@@ -22,11 +22,21 @@ loop-k-preserved g c =
     let same : at k cur ≡ at k old = so_far.same_after k (omega arith) in
     record {
       sweeps = rw c.reap_at.ensures.swept (sweeps_more k old cur (omega arith) so_far);
-      closes = c.reap_at.ensures.closed ∙ ap (λ ls. ls ++ closed_at (at k cur)) c.loop-k.invariant.closes ∙ ap (λ p. closed k (λ e. at e old) ++ closed_at p) same ∙ sym (closed_more k (λ e. at e old));
-      few = omega (arith, ap (λ ls. length ls) c.reap_at.ensures.closed, length-append c.loop-k.basket (closed_at (at k cur)), c.reap_at.ensures.few, c.loop-k.invariant.few);
+      closes =
+          c.reap_at.ensures.closed ∙ ap (λ ls. ls ++ closed_at (at k cur)) c.loop-k.invariant.closes
+          ∙ ap (λ p. closed k (λ e. at e old) ++ closed_at p) same ∙ sym (closed_more k (λ e. at e old));
+      few = omega (
+        arith,
+        ap (λ ls. length ls) c.reap_at.ensures.closed,
+        length-append c.loop-k.basket (closed_at (at k cur)),
+        c.reap_at.ensures.few,
+        c.loop-k.invariant.few,
+      );
       size = λ some. sym so_far.size ∙ size;
     }
 
 pub returns-clause-swept : goal.returns-clause-swept
 returns-clause-swept g c =
-    rw c.note_all.ensures (sweeps_all c.loop-k.k c.args.self.now c.loop-k.self (omega arith) c.loop-k.invariant.sweeps (c.loop-k.invariant.size (omega arith)))
+    rw c.note_all.ensures
+    (sweeps_all c.loop-k.k c.args.self.now c.loop-k.self (omega arith) c.loop-k.invariant.sweeps
+    (c.loop-k.invariant.size (omega arith)))

@@ -14,7 +14,10 @@ returns-clause-gives c =
       | else-self-last w ↦ omega (arith, w.at-is, w.if-self-last.false, c.len-last.ensures, moments.ok.0)
     ] in
     rw (← c.self.view_is) (record {
-      gains = gains_one moments.items c.self.inside.asked c.saturating_add-self-inside.result c.index.result.now _ _ refl refl c.saturating_add-self-inside.ensures
-          (get_or_read moments.items _ _ (omega (arith, at_is, some)) c.index.ensures 0 ∙ ap (λ n. slice_index moments.items n) at_is);
+      gains =
+          gains_one moments.items c.self.inside.asked c.saturating_add-self-inside.result
+          c.index.result.now _ _ refl refl c.saturating_add-self-inside.ensures
+          (get_or_read moments.items _ _ (omega (arith, at_is, some)) c.index.ensures 0
+          ∙ ap (λ n. slice_index moments.items n) at_is);
       stays = refl;
     })

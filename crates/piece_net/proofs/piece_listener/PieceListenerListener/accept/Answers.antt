@@ -5,7 +5,9 @@ pub invariant_of-self-clause-untouched : goal.invariant_of-self-clause-untouched
 invariant_of-self-clause-untouched c = others_given _ _ c.pop_front.ensures.rest c.args.self.now.untouched
 
 pub invariant_of-self-in-Some-Fail-clause-untouched : goal.invariant_of-self-in-Some-Fail-clause-untouched
-invariant_of-self-in-Some-Fail-clause-untouched c = others_given _ _ c.pop_front.ensures.rest c.args.self.now.untouched
+invariant_of-self-in-Some-Fail-clause-untouched c =
+    others_given _ _ c.pop_front.ensures.rest c.args.self.now.untouched
 
 pub invariant_of-self-in-Some-NotYet-clause-untouched : goal.invariant_of-self-in-Some-NotYet-clause-untouched
-invariant_of-self-in-Some-NotYet-clause-untouched c = others_given _ _ c.pop_front.ensures.rest c.args.self.now.untouched
+invariant_of-self-in-Some-NotYet-clause-untouched c =
+    others_given _ _ c.pop_front.ensures.rest c.args.self.now.untouched

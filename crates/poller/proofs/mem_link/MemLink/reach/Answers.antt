@@ -15,7 +15,9 @@ pub returns-clause-input : goal.returns-clause-input
 returns-clause-input c =
     let laid = c.args.self.now.laid in
     let count = laid.count in
-    sym (reach_read (λ (r : Reached). r.input) c.args.self.now.script.reached.items c.args.delivered c.index.result.now (omega (arith, count, c.requires)) c.index.ensures) ∙ laid.inputs c.args.delivered c.requires
+    sym (reach_read (λ (r : Reached). r.input) c.args.self.now.script.reached.items
+    c.args.delivered c.index.result.now (omega (arith, count, c.requires)) c.index.ensures)
+    ∙ laid.inputs c.args.delivered c.requires
 
 pub returns-clause-within : goal.returns-clause-within
 returns-clause-within c =
@@ -23,12 +25,16 @@ returns-clause-within c =
     let steps : List ScriptStep = script_of c.args.self.now.seat in
     let count = laid.count in
     let a = laid.inputs c.args.delivered c.requires in
-    let b = reach_read (λ (r : Reached). r.input) c.args.self.now.script.reached.items c.args.delivered c.index.result.now (omega (arith, count, c.requires)) c.index.ensures in
-    let w : length c.args.self.now.script.input.items ≡ length (pieces_in steps) = ap length laid.whole ∙ ap (λ (t : List ScriptStep). length (pieces_in t)) (take-length steps) in
+    let b = reach_read (λ (r : Reached). r.input) c.args.self.now.script.reached.items c.args.delivered
+    c.index.result.now (omega (arith, count, c.requires)) c.index.ensures in
+    let w : length c.args.self.now.script.input.items ≡ length (pieces_in steps) =
+    ap length laid.whole ∙ ap (λ (t : List ScriptStep). length (pieces_in t)) (take-length steps) in
     let p = pieces_within steps c.args.delivered in omega (arith, a, b, w, p)
 
 pub returns-clause-allowance : goal.returns-clause-allowance
 returns-clause-allowance c =
     let laid = c.args.self.now.laid in
     let count = laid.count in
-    sym (reach_read (λ (r : Reached). r.allowance) c.args.self.now.script.reached.items c.args.delivered c.index.result.now (omega (arith, count, c.requires)) c.index.ensures) ∙ laid.allowances c.args.delivered c.requires
+    sym (reach_read (λ (r : Reached). r.allowance) c.args.self.now.script.reached.items
+    c.args.delivered c.index.result.now (omega (arith, count, c.requires)) c.index.ensures)
+    ∙ laid.allowances c.args.delivered c.requires

@@ -8,7 +8,9 @@ returns-then-not-meet c = let h = c.if-not-meet.ensures in record {
   met = record { entry = c.in-Some.entry; found = h.found };
   others = c.pop_front.new.self.items;
   before = c.in-Some.ensures.items;
-  after = sym (append-nil c.pop_front.new.self.items) ∙ ap (λ (t : List Entry). c.pop_front.new.self.items ++ t) h.kept;
+  after =
+      sym (append-nil c.pop_front.new.self.items)
+      ∙ ap (λ (t : List Entry). c.pop_front.new.self.items ++ t) h.kept;
   given = h.given;
 }
 
@@ -17,6 +19,7 @@ returns c = let h = c.if-not-meet.ensures in record {
   met = record { entry = c.in-Some.entry; found = h.found };
   others = c.pop_front.new.self.items;
   before = c.in-Some.ensures.items;
-  after = c.push_back_reserved.ensures.items ∙ ap (λ (t : List Entry). c.pop_front.new.self.items ++ t) h.kept;
+  after =
+      c.push_back_reserved.ensures.items ∙ ap (λ (t : List Entry). c.pop_front.new.self.items ++ t) h.kept;
   given = h.given;
 }

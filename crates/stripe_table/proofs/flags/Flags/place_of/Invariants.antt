@@ -8,8 +8,10 @@ use Rattle.stripe_table.proofs.flags.Flags.place_of.Given as goal
 abbrev pub invariant-loop-low : goal.invariant-loop-low
 invariant-loop-low l = record {
   within : l.high ≤ length l.items;
-  low : Ascends key_of l.items → (i : ℕ) (f : UnaskedFlag) → slice_get l.items i ≡ Some f → i < l.low → f.key < l.fn.key;
-  high : Ascends key_of l.items → (i : ℕ) (f : UnaskedFlag) → slice_get l.items i ≡ Some f → l.high ≤ i → l.fn.key < f.key;
+  low : Ascends key_of l.items → (i : ℕ) (f : UnaskedFlag) → slice_get l.items i ≡ Some f
+      → i < l.low → f.key < l.fn.key;
+  high : Ascends key_of l.items → (i : ℕ) (f : UnaskedFlag) → slice_get l.items i ≡ Some f
+      → l.high ≤ i → l.fn.key < f.key;
 }
 
 abbrev pub decreases-loop-low : goal.decreases-loop-low

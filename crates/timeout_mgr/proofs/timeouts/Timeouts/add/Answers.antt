@@ -11,7 +11,9 @@ returns-in-Some-clause-adds c = let t = c.loop-count.invariant.taken in
     then_decides t.0 _ _ c.loop-count.pass.seat.me.0 _ t.1 c.in-Some.ensures.adds
 
 pub loop-count-preserved : goal.loop-count-preserved
-loop-count-preserved c = let t = c.loop-count.invariant.taken in let n = c.in_default.ensures.adds in
+loop-count-preserved c =
+    let t = c.loop-count.invariant.taken in
+    let n = c.in_default.ensures.adds in
     record {
       own = c.add_at.ensures.own;
       taken = (

@@ -9,7 +9,8 @@ use Rattle.timeout_mgr.proofs.timeouts.Timeouts.add.Given as goal
 abbrev pub invariant-loop-count : goal.invariant-loop-count
 invariant-loop-count l = record {
   own : IsOf l.self l.pass;
-  taken : (items : List Shown) × Stays items (view_of l.fn.pass) (view_of l.pass) × AreTaken l.first l.count items;
+  taken : (items : List Shown) × Stays items (view_of l.fn.pass) (view_of l.pass)
+      × AreTaken l.first l.count items;
 }
 
 abbrev pub ghosts-answer : goal.ghosts-answer

@@ -5,7 +5,8 @@ use Rattle.timeout_mgr.specs.declared.view.Shown.TheVariants.{Saw}
 use Rattle.timeout_mgr.specs.declared.word.SlotState.TheVariants.{Free}
 use Rattle.timeout_mgr.proofs.Packed.{packed, is_free}
 use Rattle.timeout_mgr.proofs.Steps.{sees, take_tries, births}
-use Rattle.timeout_mgr.proofs.Told.{took, missed, front, decided, stays_told, stays_on, then_decides, told_same}
+use Rattle.timeout_mgr.proofs.Told.{took, missed, front, decided, stays_told, stays_on, then_decides}
+use Rattle.timeout_mgr.proofs.Told.{told_same}
 use Rattle.timeout_mgr.proofs.timeouts.Timeouts.add_at.Goals as goal
 
 pub load-found-requires : goal.load-found-requires
@@ -61,7 +62,9 @@ returns-then-since-found-clause-adds c = let n : ℕ = c.load-found.result in
     )
 
 pub store-requires : goal.store-requires
-store-requires c = let sized = c.args.self.now.sized in let inside = c.requires.inside in
+store-requires c =
+    let sized = c.args.self.now.sized in
+    let inside = c.requires.inside in
     let t = took _ _ _ _ _ _ c.compare_exchange-since.ensures.2 c.if-since-found.false in
     let x = c.exchange-vacant.ensures in (
       x.0 ∙ (c.compare_exchange-since.ensures.0 ∙ (c.load-found.ensures.0 ∙ c.requires.own)),

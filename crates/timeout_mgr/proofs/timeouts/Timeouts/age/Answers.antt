@@ -9,7 +9,8 @@ compare_exchange-requires g c = let sized = c.args.self.now.sized in
     let n = sym c.requires.number.0 in (
       c.requires.own,
       omega arith,
-      ages _ _ _ _ (omega arith) _ _ _ _ (c.word-active.ensures ∙ ap (λ u. 8 * u + 2) n) (c.word-inactive.ensures
+      ages _ _ _ _ (omega arith) _ _ _ _ (c.word-active.ensures ∙ ap (λ u. 8 * u + 2) n)
+          (c.word-inactive.ensures
           ∙ ap (λ u. 8 * u + 3) n),
     )
 

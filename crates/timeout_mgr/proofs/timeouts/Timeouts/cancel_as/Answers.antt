@@ -15,7 +15,8 @@ returns-then-first-inactive-clause-cancels g c = ask_gone _ _ _ _ _ _ c.requires
 
 pub leave-requires-clause-lives : goal.leave-requires-clause-lives
 leave-requires-clause-lives g c =
-    ⊎_elim (λ x. inr (x.1 ∙ c.word-inactive.ensures)) (λ e. inl (e ∙ c.word-active.ensures)) c.else-first-active.either
+    ⊎_elim (λ x. inr (x.1 ∙ c.word-inactive.ensures))
+    (λ e. inl (e ∙ c.word-active.ensures)) c.else-first-active.either
 
 pub returns-in-Cancelled-clause-cancels : goal.returns-in-Cancelled-clause-cancels
 returns-in-Cancelled-clause-cancels g c = let a =
@@ -46,7 +47,8 @@ returns-in-Gone-leave-clause-cancels g c = let a =
     (⊎_elim (λ x. inr (x.1 ∙ c.word-inactive.ensures))
     (λ e. inl (e ∙ c.word-active.ensures)) c.else-first-active.either) in
     then_decides _ _ _ c.load-first.new.seat.me.0 _ a
-    (then_decides _ _ _ c.leave.new.pass.seat.me.0 _ c.in-Lives.ensures.leaves.0 c.in-Gone-leave.ensures.leaves)
+    (then_decides _ _ _ c.leave.new.pass.seat.me.0 _ c.in-Lives.ensures.leaves.0
+    c.in-Gone-leave.ensures.leaves)
 
 pub returns-in-Cancelled-leave-2-clause-cancels : goal.returns-in-Cancelled-leave-2-clause-cancels
 returns-in-Cancelled-leave-2-clause-cancels g c = let a =

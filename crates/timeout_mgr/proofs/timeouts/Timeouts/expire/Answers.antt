@@ -11,7 +11,8 @@ compare_exchange-found-requires g c = let sized = c.args.self.now.sized in
     let n = sym c.requires.number.0 in (
       c.requires.own,
       omega arith,
-      expires _ _ _ _ (omega arith) _ _ _ _ (c.word-inactive.ensures ∙ ap (λ u. 8 * u + 3) n) (c.word-leaving.ensures
+      expires _ _ _ _ (omega arith) _ _ _ _ (c.word-inactive.ensures ∙ ap (λ u. 8 * u + 3) n)
+          (c.word-leaving.ensures
           ∙ ap (λ u. 8 * u + 4) n),
     )
 
@@ -43,4 +44,5 @@ returns-clause-sweeps g c = let t =
     exp_hit _ _ _ _ _ _ _ _ c.compare_exchange-found.ensures.2 c.if-found-inactive.false in
     let x = c.exchange-given.ensures in
     gave _ _ _ t.0 _ _ c.compare_exchange-found.new.seat.me.0 _ (same_value _ _ _ _ _ _ x.2 t.1.1)
-    (all_told _ _ _ _ t.1.0) (c.store.ensures.2.0 ∙ ap (λ (v : TimeView). record v { hand = Idle }) (ap (λ m. m.0) x.3))
+    (all_told _ _ _ _ t.1.0)
+    (c.store.ensures.2.0 ∙ ap (λ (v : TimeView). record v { hand = Idle }) (ap (λ m. m.0) x.3))

@@ -12,7 +12,8 @@ compare_exchange-found-requires g c = let sized = c.args.self.now.sized in
       c.requires.own,
       omega arith,
       cancel_tries _ _ _ _ (omega arith) _ _ _
-          (⊎_elim (λ e. inl (e ∙ ap (λ u. 8 * u + 2) n)) (λ e. inr (e ∙ ap (λ u. 8 * u + 3) n)) c.requires.lives)
+          (⊎_elim (λ e. inl (e ∙ ap (λ u. 8 * u + 2) n))
+          (λ e. inr (e ∙ ap (λ u. 8 * u + 3) n)) c.requires.lives)
           (c.word-leaving.ensures ∙ ap (λ u. 8 * u + 4) n),
     )
 
@@ -23,7 +24,9 @@ exchange-opening-requires g c = let t =
     (c.compare_exchange-found.ensures.0 ∙ c.requires.own, (Some t.0, front _ _ _ t.1.1))
 
 pub store-requires : goal.store-requires
-store-requires g c = let sized = c.args.self.now.sized in let inside = c.args.watch.now.inside in
+store-requires g c =
+    let sized = c.args.self.now.sized in
+    let inside = c.args.watch.now.inside in
     let t =
     left_hit _ _ _ _ _ _ _ _ c.requires.number c.compare_exchange-found.ensures.2 c.if-found-named.true
     c.requires.lives in
@@ -31,7 +34,8 @@ store-requires g c = let sized = c.args.self.now.sized in let inside = c.args.wa
       x.0 ∙ (c.compare_exchange-found.ensures.0 ∙ c.requires.own),
       omega arith,
       frees _ _ _ _ (omega arith) c.args.watch.now.number _ (ap (λ m. m.0.hand) x.3
-          ∙ (t.1.0.holds ∙ ap (Holds c.args.watch.now.slot) c.word-leaving.ensures)) (front _ _ _ (ap (λ m. m.1) x.3))
+          ∙ (t.1.0.holds ∙ ap (Holds c.args.watch.now.slot) c.word-leaving.ensures))
+          (front _ _ _ (ap (λ m. m.1) x.3))
           (let e = c.word-next.ensures in omega (arith, e)),
     )
 

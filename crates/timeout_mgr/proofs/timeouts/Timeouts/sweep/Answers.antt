@@ -12,7 +12,8 @@ loop-slot-init c = let t = round_here _ _ c.clear.ensures in
 pub loop-slot-preserved : goal.loop-slot-preserved
 loop-slot-preserved c = let i = c.loop-slot.invariant in
     let lt = c.loop-slot-test.true in
-    let e : c.match-sweep_at.out ≡ c.loop-slot.out ++ list_of c.sweep_at.result = (elim c.match-sweep_at.branch [
+    let e : c.match-sweep_at.out ≡ c.loop-slot.out ++ list_of c.sweep_at.result =
+    (elim c.match-sweep_at.branch [
       | in-Some w ↦ w.out-is ∙ (w.push.ensures ∙ ap (λ x. c.loop-slot.out ++ list_of x) (sym w.in-Some.is))
       | in_default w ↦ w.out-is
           ∙ (sym (append-nil c.loop-slot.out) ∙ ap (λ x. c.loop-slot.out ++ list_of x) (sym w.in_default.is))
@@ -21,7 +22,9 @@ loop-slot-preserved c = let i = c.loop-slot.invariant in
     record {
       own = c.sweep_at.ensures.own;
       goes = λ h. swept_more _ _ _ _ _ c.loop-slot.pass.seat.me.0 _ r c.sweep_at.ensures.sweeps e h;
-      ends = λ h. swept_last _ _ _ _ _ c.loop-slot.pass.seat.me.0 _ r c.sweep_at.ensures.sweeps e (omega (arith, h));
+      ends =
+          λ h.
+          swept_last _ _ _ _ _ c.loop-slot.pass.seat.me.0 _ r c.sweep_at.ensures.sweeps e (omega (arith, h));
       few = few_more _ _ _ _ e i.few;
     }
 

@@ -34,4 +34,5 @@ pub returns-in-Inactive-clause-sweeps : goal.returns-in-Inactive-clause-sweeps
 returns-in-Inactive-clause-sweeps g c =
     then_sweeps _ _ _ _ c.load-found.new.seat.me.0 _
     (look_live _ _ _ _ _ c.load-found.ensures.2 _
-    (inr (packed _ _ c.of_bits-number.ensures Inactive c.in-Inactive.is (omega arith)))).0 c.expire.ensures.sweeps
+    (inr (packed _ _ c.of_bits-number.ensures Inactive c.in-Inactive.is (omega arith)))).0
+    c.expire.ensures.sweeps

@@ -10,10 +10,12 @@ load-found-requires g c = let sized = c.args.self.now.sized in
 
 pub returns-then-found-active-clause-tickles : goal.returns-then-found-active-clause-tickles
 returns-then-found-active-clause-tickles g c =
-    look_active _ _ _ _ _ _ c.requires.number c.load-found.ensures.2 (c.if-found-active.true ∙ c.word-active.ensures)
+    look_active _ _ _ _ _ _ c.requires.number c.load-found.ensures.2
+    (c.if-found-active.true ∙ c.word-active.ensures)
 
 pub returns-then-found-inactive-clause-tickles : goal.returns-then-found-inactive-clause-tickles
-returns-then-found-inactive-clause-tickles g c = look_gone _ _ _ _ _ _ c.requires.number c.load-found.ensures.2
+returns-then-found-inactive-clause-tickles g c =
+    look_gone _ _ _ _ _ _ c.requires.number c.load-found.ensures.2
     (λ e. c.if-found-active.false (e ∙ sym c.word-active.ensures))
     (λ e. c.if-found-inactive.true (e ∙ sym c.word-inactive.ensures))
 

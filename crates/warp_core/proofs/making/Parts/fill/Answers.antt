@@ -26,9 +26,15 @@ loop-row-preserved-in-Some g c =
       both = omega arith;
       room = omega arith;
       space = omega arith;
-      passes = moved_on passes_of c.loop-row.passes.items c.push_reserved.new.self.items row its left _ next.0 put.items v.passes;
-      books = told_on (λ r. r.runner.book) (λ k. k.book) c.loop-row.kits.items c.push_reserved-in-loop-row.new.self.items _ row its left _ next.0 also.items refl v.books;
-      pollers = told_on (λ r. r.runner.poller) (λ k. k.poller) c.loop-row.kits.items c.push_reserved-in-loop-row.new.self.items _ row its left _ next.0 also.items refl v.pollers;
+      passes =
+          moved_on passes_of c.loop-row.passes.items c.push_reserved.new.self.items row its
+          left _ next.0 put.items v.passes;
+      books =
+          told_on (λ r. r.runner.book) (λ k. k.book) c.loop-row.kits.items
+          c.push_reserved-in-loop-row.new.self.items _ row its left _ next.0 also.items refl v.books;
+      pollers =
+          told_on (λ r. r.runner.poller) (λ k. k.poller) c.loop-row.kits.items
+          c.push_reserved-in-loop-row.new.self.items _ row its left _ next.0 also.items refl v.pollers;
     }
 
 pub loop-row-preserved : goal.loop-row-preserved
@@ -53,9 +59,15 @@ loop-row-preserved g c =
       both = omega arith;
       room = omega arith;
       space = omega arith;
-      passes = moved_on passes_of c.loop-row.passes.items c.push_reserved.new.self.items row its left _ next.0 put.items v.passes;
-      books = told_on (λ r. r.runner.book) (λ k. k.book) c.loop-row.kits.items c.push_reserved-in-loop-row.new.self.items _ row its left _ next.0 also.items refl v.books;
-      pollers = told_on (λ r. r.runner.poller) (λ k. k.poller) c.loop-row.kits.items c.push_reserved-in-loop-row.new.self.items _ row its left _ next.0 also.items refl v.pollers;
+      passes =
+          moved_on passes_of c.loop-row.passes.items c.push_reserved.new.self.items row its
+          left _ next.0 put.items v.passes;
+      books =
+          told_on (λ r. r.runner.book) (λ k. k.book) c.loop-row.kits.items
+          c.push_reserved-in-loop-row.new.self.items _ row its left _ next.0 also.items refl v.books;
+      pollers =
+          told_on (λ r. r.runner.poller) (λ k. k.poller) c.loop-row.kits.items
+          c.push_reserved-in-loop-row.new.self.items _ row its left _ next.0 also.items refl v.pollers;
     }
 
 pub returns : goal.returns
@@ -68,6 +80,10 @@ returns g c =
     let all : length c.loop-row.passes.items ≡ length c.args.rows.items = omega arith in
     let also : length c.loop-row.kits.items ≡ length c.args.rows.items = omega arith in record {
       passes_are = all_moved passes_of c.loop-row.passes.items its c.args.rows.items v.passes all;
-      books = all_told (λ r. r.runner.book) (λ k. k.book) c.loop-row.kits.items its c.args.rows.items v.books also;
-      pollers = all_told (λ r. r.runner.poller) (λ k. k.poller) c.loop-row.kits.items its c.args.rows.items v.pollers also;
+      books =
+          all_told (λ r. r.runner.book)
+          (λ k. k.book) c.loop-row.kits.items its c.args.rows.items v.books also;
+      pollers =
+          all_told (λ r. r.runner.poller)
+          (λ k. k.poller) c.loop-row.kits.items its c.args.rows.items v.pollers also;
     }

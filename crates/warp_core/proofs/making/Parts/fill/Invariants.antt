@@ -10,6 +10,8 @@ invariant-loop-row g l = record {
   room : length l.passes.items + into_iter_len l.row-iterator ≤ vec_capacity l.passes;
   space : length l.kits.items + into_iter_len l.row-iterator ≤ vec_capacity l.kits;
   passes : l.passes.items ++ map passes_of (into_iter_items l.row-iterator) ≡ map passes_of l.fn.rows.items;
-  books : map (λ kit. kit.book) l.kits.items ++ map (λ row. row.runner.book) (into_iter_items l.row-iterator) ≡ map (λ row. row.runner.book) l.fn.rows.items;
-  pollers : map (λ kit. kit.poller) l.kits.items ++ map (λ row. row.runner.poller) (into_iter_items l.row-iterator) ≡ map (λ row. row.runner.poller) l.fn.rows.items;
+  books : map (λ kit. kit.book) l.kits.items ++ map (λ row. row.runner.book) (into_iter_items l.row-iterator)
+      ≡ map (λ row. row.runner.book) l.fn.rows.items;
+  pollers : map (λ kit. kit.poller) l.kits.items ++ map (λ row. row.runner.poller)
+      (into_iter_items l.row-iterator) ≡ map (λ row. row.runner.poller) l.fn.rows.items;
 }

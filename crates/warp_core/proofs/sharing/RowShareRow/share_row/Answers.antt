@@ -31,8 +31,14 @@ returns-clause-from g c =
       passes = record {
         disp = (c.share.ensures.from, own.disp.1);
         times = own.times;
-        cache = record { cell = c.share-2.ensures.from; legal = shared_from (λ h. IsCacheHistory (past_of h)) _ _ _ _ cached own.cache.legal };
-        tally = record { cell = c.share-3.ensures.from; right = shared_from (λ h. IsTallyPast (tally_past h)) _ _ _ _ tallied own.tally.right };
+        cache = record {
+          cell = c.share-2.ensures.from;
+          legal = shared_from (λ h. IsCacheHistory (past_of h)) _ _ _ _ cached own.cache.legal;
+        };
+        tally = record {
+          cell = c.share-3.ensures.from;
+          right = shared_from (λ h. IsTallyPast (tally_past h)) _ _ _ _ tallied own.tally.right;
+        };
       };
       shared = c.requires.from.shared;
     }
@@ -46,8 +52,16 @@ returns-clause-to g c =
       passes = record {
         disp = (c.share.ensures.to, other.disp.1);
         times = other.times;
-        cache = record { cell = c.share-2.ensures.to; legal = shared_to (λ h. IsCacheHistory (past_of h)) _ _ _ _ cached own.cache.legal other.cache.legal };
-        tally = record { cell = c.share-3.ensures.to; right = shared_to (λ h. IsTallyPast (tally_past h)) _ _ _ _ tallied own.tally.right other.tally.right };
+        cache = record {
+          cell = c.share-2.ensures.to;
+          legal =
+              shared_to (λ h. IsCacheHistory (past_of h)) _ _ _ _ cached own.cache.legal other.cache.legal;
+        };
+        tally = record {
+          cell = c.share-3.ensures.to;
+          right =
+              shared_to (λ h. IsTallyPast (tally_past h)) _ _ _ _ tallied own.tally.right other.tally.right;
+        };
       };
       shared = c.requires.to.shared;
     }

@@ -5,7 +5,7 @@ use Rattle.warp_front_mem.specs.MemFronts.{IsRootedAt, front_told}
 use Rattle.warp_books.specs.EndCounts.{book_told}
 use Rattle.warp_front_mem.proofs.mem_front.MemFront.handed_out.Given as goal
 
--- so many kits were taken, with empty books and below the root
+-- this many kits were taken, with empty books and below the root
 abbrev pub invariant-loop-given : goal.invariant-loop-given
 invariant-loop-given g l = record {
   within : l._given ≤ l.count;

@@ -10,8 +10,14 @@ returns-clause-from g c =
     let tallied = c.share-3.ensures.shared tt in record {
       disp = (c.share.ensures.from, c.requires.from.disp.1);
       times = c.requires.from.times;
-      cache = record { cell = c.share-2.ensures.from; legal = shared_from (λ h. IsCacheHistory (past_of h)) _ _ _ _ cached c.requires.from.cache.legal };
-      tally = record { cell = c.share-3.ensures.from; right = shared_from (λ h. IsTallyPast (tally_past h)) _ _ _ _ tallied c.requires.from.tally.right };
+      cache = record {
+        cell = c.share-2.ensures.from;
+        legal = shared_from (λ h. IsCacheHistory (past_of h)) _ _ _ _ cached c.requires.from.cache.legal;
+      };
+      tally = record {
+        cell = c.share-3.ensures.from;
+        right = shared_from (λ h. IsTallyPast (tally_past h)) _ _ _ _ tallied c.requires.from.tally.right;
+      };
     }
 
 pub returns-clause-to : goal.returns-clause-to
@@ -22,11 +28,15 @@ returns-clause-to g c =
       times = c.requires.to.times;
       cache = record {
         cell = c.share-2.ensures.to;
-        legal = shared_to (λ h. IsCacheHistory (past_of h)) _ _ _ _ cached c.requires.from.cache.legal c.requires.to.cache.legal;
+        legal =
+            shared_to (λ h. IsCacheHistory (past_of h)) _ _ _ _ cached c.requires.from.cache.legal
+            c.requires.to.cache.legal;
       };
       tally = record {
         cell = c.share-3.ensures.to;
-        right = shared_to (λ h. IsTallyPast (tally_past h)) _ _ _ _ tallied c.requires.from.tally.right c.requires.to.tally.right;
+        right =
+            shared_to (λ h. IsTallyPast (tally_past h)) _ _ _ _ tallied c.requires.from.tally.right
+            c.requires.to.tally.right;
       };
     }
 

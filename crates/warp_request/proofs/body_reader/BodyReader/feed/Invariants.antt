@@ -8,8 +8,10 @@ use Rattle.warp_request.proofs.body_reader.BodyReader.feed.Given as goal
 abbrev pub invariant-loop-used : goal.invariant-loop-used
 invariant-loop-used l = record {
   within : l.used ≤ length l.piece;
-  stands : (framing : Framing) (fed : List ℕ) → Represents l.fn.self framing fed → Represents l.self framing (fed ++ take l.used l.piece);
-  first : (framing : Framing) (fed : List ℕ) → Represents l.fn.self framing fed → (n : ℕ) → n < l.used → body_of framing (fed ++ take n l.piece) ≡ more;
+  stands : (framing : Framing) (fed : List ℕ) → Represents l.fn.self framing fed
+      → Represents l.self framing (fed ++ take l.used l.piece);
+  first : (framing : Framing) (fed : List ℕ) → Represents l.fn.self framing fed → (n : ℕ)
+      → n < l.used → body_of framing (fed ++ take n l.piece) ≡ more;
   ended : state_of l.fn.self ≢ States.More → (l.used ≡ 0) × (l.self ≡ l.fn.self);
 }
 

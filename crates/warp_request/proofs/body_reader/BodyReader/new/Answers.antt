@@ -1,5 +1,5 @@
 use Rattle.std.proofs.Common.{refl}
-use Rattle.warp_request.proofs.BodyReaderLemmas.{first_line}
+use Rattle.warp_request.proofs.ChunkedLemmas.{first_line}
 use Rattle.warp_request.proofs.body_reader.BodyReader.new.Goals as goal
 
 pub returns-in-Chunked : goal.returns-in-Chunked

@@ -16,12 +16,15 @@ with_part lines part = length_with lines (trim_ows part)
 pub returns : goal.returns
 returns c =
     let start = lengths_shown c.args.self in
-    fold_yields (λ (parts : List (List ℕ)) (lines : LengthLines). lengths_shown lines ≡ fold with_part start parts) _ _ c.fold.ensures.ran
-    (YieldsList-from_slice_split _ _ c.args.value.now c.split.ensures.rest c.split.ensures.done c.split.ensures.closure (λ x r q k. search (rules, tests)))
+    fold_yields (λ (parts : List (List ℕ)) (lines : LengthLines).
+    lengths_shown lines ≡ fold with_part start parts) _ _ c.fold.ensures.ran
+    (YieldsList-from_slice_split _ _ c.args.value.now c.split.ensures.rest c.split.ensures.done
+    c.split.ensures.closure (λ x r q k. search (rules, tests)))
     refl
     (λ parts lines part next f' is called. (
       let one : lengths_shown next ≡ with_part (lengths_shown lines) part.now = search rules in
-          one ∙ ap (λ (l : Lengths). with_part l part.now) is ∙ sym (fold-append with_part start parts (part.now ∷ [])),
+          one ∙ ap (λ (l : Lengths). with_part l part.now) is
+          ∙ sym (fold-append with_part start parts (part.now ∷ [])),
       search rules,
     ))
     ∙ sym (fold-map length_with trim_ows start (slice_split (λ b. b == 44) c.args.value.now))

@@ -19,9 +19,12 @@ returns-in-Yes-clause-did g c =
     let q = view_of c.accept.new.pass in
     let v = told_of m q s b in
     let left = c.enter.new.self in
-    let w = told_of (mgr_view c.enter.new.pass) (view_of left.tallied) (seen_of left.timed) (g.B.Book.told left.book) in
+    let w = told_of (mgr_view c.enter.new.pass) (view_of left.tallied) (seen_of left.timed)
+    (g.B.Book.told left.book) in
     admits c.calls_of_runs.ensures u v w c.args.opening c.in-Done.reply c.enter.result c.in-Yes.is
-    (did_count c.calls_of_runs.ensures m t q s b (record { call = Accept c.args.opening; reply = c.in-Done.reply }) c.in-Done.ensures.called.own) c.enter.ensures.did
+    (did_count c.calls_of_runs.ensures m t q s b
+    (record { call = Accept c.args.opening; reply = c.in-Done.reply }) c.in-Done.ensures.called.own)
+    c.enter.ensures.did
 
 pub returns-in-NoMemory-clause-did : goal.returns-in-NoMemory-clause-did
 returns-in-NoMemory-clause-did g c =
@@ -34,7 +37,8 @@ returns-in-NoMemory-clause-did g c =
     let q = view_of c.accept.new.pass in
     let v = told_of m q s b in
     ran_as u v c.after.result _ (IsAdmitting c.args.opening) c.after.ensures
-    (admits_none c.args.opening u v c.in-Done.reply c.in-NoMemory.is (did_count c.calls_of_runs.ensures m t q s b (record { call = Accept c.args.opening; reply = c.in-Done.reply }) c.in-Done.ensures.called.own))
+    (admits_none c.args.opening u v c.in-Done.reply c.in-NoMemory.is (did_count c.calls_of_runs.ensures m t q
+    s b (record { call = Accept c.args.opening; reply = c.in-Done.reply }) c.in-Done.ensures.called.own))
 
 pub returns-in-Spent-clause-did : goal.returns-in-Spent-clause-did
 returns-in-Spent-clause-did g c =
@@ -47,4 +51,5 @@ returns-in-Spent-clause-did g c =
     let q = view_of c.accept.new.pass in
     let v = told_of m q s b in
     ran_as u v c.after-in-Spent.result _ (IsAdmitting c.args.opening) c.after-in-Spent.ensures
-    (admits_spent c.args.opening u v (did_no_count c.calls_of_runs.ensures m t q s b c.in-Spent.ensures.called.own))
+    (admits_spent c.args.opening u v
+    (did_no_count c.calls_of_runs.ensures m t q s b c.in-Spent.ensures.called.own))

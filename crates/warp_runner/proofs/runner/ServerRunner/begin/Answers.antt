@@ -19,8 +19,10 @@ returns-in-Opened-clause-did g c =
     let u = told_of (mgr_view c.args.pass.now) t s b in
     let v = told_of (mgr_view c.open.new.pass) t s b in
     let left = c.admit.new.self in
-    let w = told_of (mgr_view c.admit.new.pass) (view_of left.tallied) (seen_of left.timed) (g.B.Book.told left.book) in
-    begins c.calls_of_runs.ensures u v w c.in-Opened.opening c.admit.result (c.in-Opened.ensures.opened.0 t s b) c.admit.ensures.did
+    let w = told_of (mgr_view c.admit.new.pass) (view_of left.tallied) (seen_of left.timed)
+    (g.B.Book.told left.book) in
+    begins c.calls_of_runs.ensures u v w c.in-Opened.opening c.admit.result
+    (c.in-Opened.ensures.opened.0 t s b) c.admit.ensures.did
 
 pub returns-in-Full-clause-did : goal.returns-in-Full-clause-did
 returns-in-Full-clause-did g c =
@@ -31,9 +33,11 @@ returns-in-Full-clause-did g c =
     let u = told_of (mgr_view c.args.pass.now) t s b in
     let v = told_of (mgr_view c.open.new.pass) t s b in
     let left = c.turn_link_away.new.self in
-    let w = told_of (mgr_view c.open.new.pass) (view_of left.tallied) (seen_of left.timed) (g.B.Book.told left.book) in
+    let w = told_of (mgr_view c.open.new.pass) (view_of left.tallied) (seen_of left.timed)
+    (g.B.Book.told left.book) in
     let d = c.turn_link_away.ensures.did in
-    begins_none c.calls_of_runs.ensures u v w found_all_out c.turn_link_away.result (inl refl) c.turn_link_away.ensures.none (c.in-Full.ensures.opened t s b) (d.0, d.1 (mgr_view c.open.new.pass), d.2)
+    begins_none c.calls_of_runs.ensures u v w found_all_out c.turn_link_away.result (inl refl)
+    c.turn_link_away.ensures.none (c.in-Full.ensures.opened t s b) (d.0, d.1 (mgr_view c.open.new.pass), d.2)
 
 pub returns-in-Taken-clause-did : goal.returns-in-Taken-clause-did
 returns-in-Taken-clause-did g c =
@@ -44,9 +48,13 @@ returns-in-Taken-clause-did g c =
     let u = told_of (mgr_view c.args.pass.now) t s b in
     let v = told_of (mgr_view c.open.new.pass) t s b in
     let left = c.turn_link_away-in-Taken.new.self in
-    let w = told_of (mgr_view c.open.new.pass) (view_of left.tallied) (seen_of left.timed) (g.B.Book.told left.book) in
+    let w = told_of (mgr_view c.open.new.pass) (view_of left.tallied) (seen_of left.timed)
+    (g.B.Book.told left.book) in
     let d = c.turn_link_away-in-Taken.ensures.did in
-    begins_none c.calls_of_runs.ensures u v w (called (Entries.Open c.in-Taken.field-0.fd (Opens.Taken c.in-Taken.field-0))) c.turn_link_away-in-Taken.result (inr (c.in-Taken.field-0, refl)) c.turn_link_away-in-Taken.ensures.none (c.in-Taken.ensures.opened t s b) (d.0, d.1 (mgr_view c.open.new.pass), d.2)
+    begins_none c.calls_of_runs.ensures u v w
+    (called (Entries.Open c.in-Taken.field-0.fd (Opens.Taken c.in-Taken.field-0)))
+    c.turn_link_away-in-Taken.result (inr (c.in-Taken.field-0, refl)) c.turn_link_away-in-Taken.ensures.none
+    (c.in-Taken.ensures.opened t s b) (d.0, d.1 (mgr_view c.open.new.pass), d.2)
 
 pub returns-in-Spent-clause-did : goal.returns-in-Spent-clause-did
 returns-in-Spent-clause-did g c =

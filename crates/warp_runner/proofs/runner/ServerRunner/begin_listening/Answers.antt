@@ -19,11 +19,13 @@ returns-in-None-clause-fits g c =
     let b = g.B.Book.told was.book in
     let u = told_of (mgr_view c.args.pass.now) t s b in
     let left = c.start-ran.new.self in
-    let w = told_of (mgr_view c.start-ran.new.pass) (view_of left.tallied) (seen_of left.timed) (g.B.Book.told left.book) in
+    let w = told_of (mgr_view c.start-ran.new.pass) (view_of left.tallied) (seen_of left.timed)
+    (g.B.Book.told left.book) in
     let d = c.start-ran.ensures.did in
     λ jobs fits. subst (λ n. FitsUntil n None w jobs) (sym c.start-ran.ensures.same.1)
     (subst (λ (o : Option ℕ). FitsUntil was.limit o w jobs) c.in-None.is
-    (start_fits was.limit u w jobs d.0 c.start-ran.result.stopped (named c.start-ran.result) d.1 (g.P.Listener.Listener.told c.args.listener) d.2 fits))
+    (start_fits was.limit u w jobs d.0 c.start-ran.result.stopped (named c.start-ran.result) d.1
+    (g.P.Listener.Listener.told c.args.listener) d.2 fits))
 
 pub returns-in-Some-clause-fits : goal.returns-in-Some-clause-fits
 returns-in-Some-clause-fits g c =
@@ -33,11 +35,13 @@ returns-in-Some-clause-fits g c =
     let b = g.B.Book.told was.book in
     let u = told_of (mgr_view c.args.pass.now) t s b in
     let left = c.start-ran.new.self in
-    let w = told_of (mgr_view c.start-ran.new.pass) (view_of left.tallied) (seen_of left.timed) (g.B.Book.told left.book) in
+    let w = told_of (mgr_view c.start-ran.new.pass) (view_of left.tallied) (seen_of left.timed)
+    (g.B.Book.told left.book) in
     let d = c.start-ran.ensures.did in
     λ jobs fits. subst (λ n. FitsUntil n (Some c.in-Some.code) w jobs) (sym c.start-ran.ensures.same.1)
     (subst (λ (o : Option ℕ). FitsUntil was.limit o w jobs) c.in-Some.is
-    (start_fits was.limit u w jobs d.0 c.start-ran.result.stopped (named c.start-ran.result) d.1 (g.P.Listener.Listener.told c.args.listener) d.2 fits))
+    (start_fits was.limit u w jobs d.0 c.start-ran.result.stopped (named c.start-ran.result) d.1
+    (g.P.Listener.Listener.told c.args.listener) d.2 fits))
 
 pub returns-in-Some-clause-made : goal.returns-in-Some-clause-made
 returns-in-Some-clause-made g c =
@@ -47,9 +51,11 @@ returns-in-Some-clause-made g c =
     let b = g.B.Book.told was.book in
     let u = told_of (mgr_view c.args.pass.now) t s b in
     let left = c.start-ran.new.self in
-    let w = told_of (mgr_view c.start-ran.new.pass) (view_of left.tallied) (seen_of left.timed) (g.B.Book.told left.book) in
+    let w = told_of (mgr_view c.start-ran.new.pass) (view_of left.tallied) (seen_of left.timed)
+    (g.B.Book.told left.book) in
     let d = c.start-ran.ensures.did in
-    subst (λ l. HasMadeCalls u.mgr l w.mgr) (names_none c.start-ran.result c.start-ran.ensures.one c.in-Some.code c.in-Some.is) d.1.made
+    subst (λ l. HasMadeCalls u.mgr l w.mgr)
+    (names_none c.start-ran.result c.start-ran.ensures.one c.in-Some.code c.in-Some.is) d.1.made
 
 pub returns-in-Some-clause-faulted : goal.returns-in-Some-clause-faulted
 returns-in-Some-clause-faulted g c = λ e. c.start-ran.ensures.faulted (c.in-Some.is ∙ ap (λ n. Some n) e)

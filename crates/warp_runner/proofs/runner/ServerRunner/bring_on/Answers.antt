@@ -1,7 +1,7 @@
 use Rattle.std.proofs.Common.{ap, ◌∙◌}
 use Rattle.warp_jobs.specs.Held.{Held}
 use Rattle.warp_jobs.specs.declared.session.Went.TheVariants.{Waits, Asks, Over}
-use Rattle.warp_runner.specs.JournalLaws.{grown_trans}
+use Rattle.dispatcher.specs.Laws.{grown_then}
 use Rattle.warp_runner.specs.declared.bringing.Brought.TheVariants as Ways
 use Rattle.warp_runner.proofs.BringingLemmas.{left_off, on_then, number_then, on_supplied, number_supplied}
 use Rattle.warp_runner.proofs.runner.ServerRunner.bring_on.Goals as goal
@@ -11,9 +11,13 @@ returns-in-Waits-clause-brought g c =
     let h = c.args.session.now in
     let k = c.files.session in
     let l = c.advance-went.new.self in
-    let m = c.spent_lease.new.self in left_off c.leave_off.result (Ways.Waits c.in-Waits.dir) h m c.leave_off.ensures.brought (
-      on_then h k l m (Waits c.in-Waits.dir) _ _ c.files.invariant.brought c.in-Waits.ensures.gone c.spent_lease.ensures.same,
-      number_then h k l m (Waits c.in-Waits.dir) _ _ c.files.invariant.number c.in-Waits.ensures.gone c.spent_lease.ensures.same,
+    let m = c.spent_lease.new.self in
+    left_off c.leave_off.result (Ways.Waits c.in-Waits.dir) h m c.leave_off.ensures.brought (
+      on_then h k l m (Waits c.in-Waits.dir) _ _ c.files.invariant.brought c.in-Waits.ensures.gone
+          c.spent_lease.ensures.same c.keeps_its_counts-in-files.ensures.waits,
+      number_then h k l m
+          (Waits c.in-Waits.dir) _ _ c.files.invariant.number c.in-Waits.ensures.gone
+          c.spent_lease.ensures.same,
     )
 
 pub returns-in-Over-clause-brought : goal.returns-in-Over-clause-brought
@@ -21,9 +25,12 @@ returns-in-Over-clause-brought g c =
     let h = c.args.session.now in
     let k = c.files.session in
     let l = c.advance-went.new.self in
-    let m = c.spent_lease.new.self in left_off c.leave_off-in-Over.result (Ways.Over c.in-Over.end) h m c.leave_off-in-Over.ensures.brought (
-      on_then h k l m (Over c.in-Over.end) _ _ c.files.invariant.brought c.in-Over.ensures.gone c.spent_lease.ensures.same,
-      number_then h k l m (Over c.in-Over.end) _ _ c.files.invariant.number c.in-Over.ensures.gone c.spent_lease.ensures.same,
+    let m = c.spent_lease.new.self in
+    left_off c.leave_off-in-Over.result (Ways.Over c.in-Over.end) h m c.leave_off-in-Over.ensures.brought (
+      on_then h k l m (Over c.in-Over.end) _ _ c.files.invariant.brought c.in-Over.ensures.gone
+          c.spent_lease.ensures.same c.keeps_its_counts-in-files.ensures.waits,
+      number_then h k l m
+          (Over c.in-Over.end) _ _ c.files.invariant.number c.in-Over.ensures.gone c.spent_lease.ensures.same,
       λ ne. ap (λ (x : Held). x.conn.over) c.spent_lease.ensures.same ∙ c.in-Over.ensures.gone.stands.1 ne,
     )
 
@@ -38,8 +45,20 @@ files-preserved g c =
     let f = c.find.ensures in record {
       own = f.own;
       same = (f.same.0 ∙ e.same.0 ∙ i.same.0, f.same.1 ∙ e.same.1 ∙ i.same.1);
-      grown = grown_trans _ _ _ i.grown (grown_trans _ _ _ e.grown f.grown);
-      rest = (f.rest.0 ∙ e.rest.0 ∙ i.rest.0, f.rest.1 ∙ e.rest.1 ∙ i.rest.1, f.rest.2 ∙ e.rest.2 ∙ i.rest.2, f.rest.3 ∙ e.rest.3 ∙ i.rest.3);
-      brought = on_supplied h m c.supply.new.self (on_then h k l m Asks _ _ i.brought c.in-Asks.ensures.gone c.spent_lease.ensures.same) c.supply.ensures.supplied;
-      number = number_supplied m c.supply.new.self h.number (number_then h k l m Asks _ _ i.number c.in-Asks.ensures.gone c.spent_lease.ensures.same) c.supply.ensures.supplied;
+      grown = grown_then _ _ _ i.grown (grown_then _ _ _ e.grown f.grown);
+      rest = (
+        f.rest.0 ∙ e.rest.0 ∙ i.rest.0,
+        f.rest.1 ∙ e.rest.1 ∙ i.rest.1,
+        f.rest.2 ∙ e.rest.2 ∙ i.rest.2,
+        f.rest.3 ∙ e.rest.3 ∙ i.rest.3,
+      );
+      brought =
+          on_supplied h m c.supply.new.self
+          (on_then h k l m Asks _ _ i.brought c.in-Asks.ensures.gone
+          c.spent_lease.ensures.same c.keeps_its_counts-in-files.ensures.waits)
+          c.supply.ensures.supplied;
+      number =
+          number_supplied m c.supply.new.self h.number
+          (number_then h k l m Asks _ _ i.number c.in-Asks.ensures.gone c.spent_lease.ensures.same)
+          c.supply.ensures.supplied;
     }

@@ -9,10 +9,12 @@ use Rattle.warp_runner.proofs.runner.ServerRunner.bring_on.Given as goal
 
 abbrev pub invariant-files : goal.invariant-files
 invariant-files g l = record {
-  own : AreOfCells (arc_value l.self.shared).times l.self.timed (arc_value l.self.shared).cache l.self.cached (arc_value l.self.shared).tally l.self.tallied;
+  own : AreOfCells (arc_value l.self.shared).times l.self.timed (arc_value l.self.shared).cache l.self.cached
+      (arc_value l.self.shared).tally l.self.tallied;
   same : (l.self.shared ≡ l.fn.self.shared) × (l.self.limit ≡ l.fn.self.limit);
   grown : HasGrown (view_of l.fn.self.cached) (view_of l.self.cached);
-  rest : (l.self.timed ≡ l.fn.self.timed) × (l.self.tallied ≡ l.fn.self.tallied) × (l.self.poller ≡ l.fn.self.poller) × (l.self.book ≡ l.fn.self.book);
+  rest : (l.self.timed ≡ l.fn.self.timed) × (l.self.tallied ≡ l.fn.self.tallied)
+      × (l.self.poller ≡ l.fn.self.poller) × (l.self.book ≡ l.fn.self.book);
   brought : IsBroughtOn l.fn.session l.session;
   number : l.session.number ≡ l.fn.session.number;
 }

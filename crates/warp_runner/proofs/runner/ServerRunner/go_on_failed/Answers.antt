@@ -20,7 +20,8 @@ returns-then-is_broken-clause-did g c =
     let u = told_of (mgr_view c.args.pass.now) t s b in
     let k = c.args.listening.value in
     ran_as u u c.after.result _ (IsFailing k) c.after.ensures
-    (fails_broken k u (subst (λ (x : HeldListener). 1000 ≤ x.listener.failed_row) c.deref.ensures (c.if-is_broken.ensures.0 refl)) (did_none c.calls_of_runs.ensures u))
+    (fails_broken k u (subst (λ (x : HeldListener). 1000 ≤ x.listener.failed_row) c.deref.ensures
+    (c.if-is_broken.ensures.0 refl)) (did_none c.calls_of_runs.ensures u))
 
 pub returns-else-is_broken-clause-did : goal.returns-else-is_broken-clause-did
 returns-else-is_broken-clause-did g c =
@@ -30,5 +31,6 @@ returns-else-is_broken-clause-did g c =
     let b = g.B.Book.told was.book in
     let u = told_of (mgr_view c.args.pass.now) t s b in
     let left = c.listen_again.new.self in
-    let w = told_of (mgr_view c.listen_again.new.pass) (view_of left.tallied) (seen_of left.timed) (g.B.Book.told left.book) in
+    let w = told_of (mgr_view c.listen_again.new.pass) (view_of left.tallied) (seen_of left.timed)
+    (g.B.Book.told left.book) in
     fails_again c.args.listening.value u w c.listen_again.result c.listen_again.ensures.did

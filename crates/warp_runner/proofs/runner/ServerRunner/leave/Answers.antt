@@ -18,7 +18,8 @@ returns-in-Ok-clause-did g c =
     let w = told_of (mgr_view c.close-closed.new.pass) t s b in
     let same = c.opening.ensures ∙ ap (λ x. x.opening) c.deref.ensures in
     ran_as u w c.named.result _ (IsLeaving c.args.listening.value) c.named.ensures
-    (leaves c.args.listening.value c.opening.result u w same (c.in-Ok.ensures.closed.0, c.in-Ok.ensures.closed.1 t s b))
+    (leaves c.args.listening.value c.opening.result u w same
+    (c.in-Ok.ensures.closed.0, c.in-Ok.ensures.closed.1 t s b))
 
 pub returns-in-Err-clause-did : goal.returns-in-Err-clause-did
 returns-in-Err-clause-did g c =

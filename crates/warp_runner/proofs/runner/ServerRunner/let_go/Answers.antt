@@ -13,13 +13,19 @@ returns-in-Some-Listen-clause-did g c =
     let was = c.args.self.now in
     let t = view_of was.tallied in
     let s = seen_of was.timed in
-    let b = g.B.Book.told was.book in
-    (nothing, λ v. did_none c.calls_of_runs.ensures (told_of v t s b), inr (inr (c.in-Some-Listen._listening.value, search rules), refl, refl))
+    let b = g.B.Book.told was.book in (
+      nothing,
+      λ v. did_none c.calls_of_runs.ensures (told_of v t s b),
+      inr (inr (c.in-Some-Listen._listening.value, search rules), refl, refl),
+    )
 
 pub returns-in-None-clause-did : goal.returns-in-None-clause-did
 returns-in-None-clause-did g c =
     let was = c.args.self.now in
     let t = view_of was.tallied in
     let s = seen_of was.timed in
-    let b = g.B.Book.told was.book in
-    (nothing, λ v. did_none c.calls_of_runs.ensures (told_of v t s b), inr (inl (ap (λ j. kind_of_job (λ job. tag_of job) j) c.in-None.is), refl, refl))
+    let b = g.B.Book.told was.book in (
+      nothing,
+      λ v. did_none c.calls_of_runs.ensures (told_of v t s b),
+      inr (inl (ap (λ j. kind_of_job (λ job. tag_of job) j) c.in-None.is), refl, refl),
+    )

@@ -16,12 +16,14 @@ returns-in-Accepted-clause-did g c =
     let b = g.B.Book.told was.book in
     let u = told_of (mgr_view c.args.pass.now) t s b in
     let left = c.take_link.new.self in
-    let w = told_of (mgr_view c.take_link.new.pass) (view_of left.tallied) (seen_of left.timed) (g.B.Book.told left.book) in
+    let w = told_of (mgr_view c.take_link.new.pass) (view_of left.tallied) (seen_of left.timed)
+    (g.B.Book.told left.book) in
     let h = c.args.listening.value in
     let k = c.accept.new.self in
     let l = c.in-Accepted.ensures.listened in
     let e = c.deref_mut.ensures.value in
-    listens_link was.limit h k c.args.marks u w c.take_link.result (l.opening ∙ ap (λ y. y.opening) e) (l.accepted ∙ ap (λ y. more_by_one y.accepted) e) c.take_link.ensures.did
+    listens_link was.limit h k c.args.marks u w c.take_link.result (l.opening ∙ ap (λ y. y.opening) e)
+    (l.accepted ∙ ap (λ y. more_by_one y.accepted) e) c.take_link.ensures.did
 
 pub returns-in-NotYet-clause-did : goal.returns-in-NotYet-clause-did
 returns-in-NotYet-clause-did g c =
@@ -31,12 +33,14 @@ returns-in-NotYet-clause-did g c =
     let b = g.B.Book.told was.book in
     let u = told_of (mgr_view c.args.pass.now) t s b in
     let left = c.listen_again.new.self in
-    let w = told_of (mgr_view c.listen_again.new.pass) (view_of left.tallied) (seen_of left.timed) (g.B.Book.told left.book) in
+    let w = told_of (mgr_view c.listen_again.new.pass) (view_of left.tallied) (seen_of left.timed)
+    (g.B.Book.told left.book) in
     let h = c.args.listening.value in
     let k = c.accept.new.self in
     let l = c.in-NotYet.ensures.listened in
     let e = c.deref_mut.ensures.value in
-    listens_again was.limit h k c.args.marks u w c.listen_again.result (l.opening ∙ ap (λ y. y.opening) e) (Some c.args.marks.read) (inl refl) (l.accepted ∙ ap (λ y. y.accepted) e) c.listen_again.ensures.did
+    listens_again was.limit h k c.args.marks u w c.listen_again.result (l.opening ∙ ap (λ y. y.opening) e)
+    (Some c.args.marks.read) (inl refl) (l.accepted ∙ ap (λ y. y.accepted) e) c.listen_again.ensures.did
 
 pub returns-in-NoMemory-clause-did : goal.returns-in-NoMemory-clause-did
 returns-in-NoMemory-clause-did g c =
@@ -46,12 +50,15 @@ returns-in-NoMemory-clause-did g c =
     let b = g.B.Book.told was.book in
     let u = told_of (mgr_view c.args.pass.now) t s b in
     let left = c.listen_again-in-NoMemory.new.self in
-    let w = told_of (mgr_view c.listen_again-in-NoMemory.new.pass) (view_of left.tallied) (seen_of left.timed) (g.B.Book.told left.book) in
+    let w = told_of (mgr_view c.listen_again-in-NoMemory.new.pass) (view_of left.tallied)
+    (seen_of left.timed) (g.B.Book.told left.book) in
     let h = c.args.listening.value in
     let k = c.accept.new.self in
     let l = c.in-NoMemory.ensures.listened in
     let e = c.deref_mut.ensures.value in
-    listens_again was.limit h k c.args.marks u w c.listen_again-in-NoMemory.result (l.opening ∙ ap (λ y. y.opening) e) None (inr refl) (l.accepted ∙ ap (λ y. y.accepted) e) c.listen_again-in-NoMemory.ensures.did
+    listens_again was.limit h k c.args.marks u w c.listen_again-in-NoMemory.result
+    (l.opening ∙ ap (λ y. y.opening) e) None (inr refl)
+    (l.accepted ∙ ap (λ y. y.accepted) e) c.listen_again-in-NoMemory.ensures.did
 
 pub returns-in-Failed-clause-did : goal.returns-in-Failed-clause-did
 returns-in-Failed-clause-did g c =
@@ -61,9 +68,11 @@ returns-in-Failed-clause-did g c =
     let b = g.B.Book.told was.book in
     let u = told_of (mgr_view c.args.pass.now) t s b in
     let left = c.go_on_failed.new.self in
-    let w = told_of (mgr_view c.go_on_failed.new.pass) (view_of left.tallied) (seen_of left.timed) (g.B.Book.told left.book) in
+    let w = told_of (mgr_view c.go_on_failed.new.pass) (view_of left.tallied) (seen_of left.timed)
+    (g.B.Book.told left.book) in
     let h = c.args.listening.value in
     let k = c.accept.new.self in
     let l = c.in-Failed.ensures.listened in
     let e = c.deref_mut.ensures.value in
-    listens_failed was.limit h k c.args.marks u w c.go_on_failed.result (l.opening ∙ ap (λ y. y.opening) e) (l.accepted ∙ ap (λ y. y.accepted) e) c.go_on_failed.ensures.did
+    listens_failed was.limit h k c.args.marks u w c.go_on_failed.result (l.opening ∙ ap (λ y. y.opening) e)
+    (l.accepted ∙ ap (λ y. y.accepted) e) c.go_on_failed.ensures.did

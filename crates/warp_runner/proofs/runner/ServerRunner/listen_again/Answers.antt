@@ -19,7 +19,8 @@ returns-in-Ok-clause-did g c =
     let same = c.opening-opening.ensures ∙ ap (λ x. x.opening) c.deref.ensures in
     let r = c.in-Ok.ensures.registered in
     ran_as u w c.named.result _ (IsListening c.args.listening.value c.args.mark) c.named.ensures
-    (listens c.args.listening.value c.args.mark c.opening-opening.result c.in-Ok.event u w same (r.0, r.1 t s b, r.2))
+    (listens c.args.listening.value c.args.mark c.opening-opening.result c.in-Ok.event u w same
+    (r.0, r.1 t s b, r.2))
 
 pub returns-in-Err-clause-did : goal.returns-in-Err-clause-did
 returns-in-Err-clause-did g c =

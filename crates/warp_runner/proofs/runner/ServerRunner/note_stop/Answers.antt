@@ -14,5 +14,6 @@ returns-clause-fits g c =
     let s = seen_of was.timed in
     let b = g.B.Book.told was.book in
     let q = view_of c.stop.new.pass in
-    let n = notes c.calls_of_runs.ensures t q s b (Stop c.args.code) (inr (c.args.code, refl)) c.stop.result c.stop.ensures.called in
+    let n = notes c.calls_of_runs.ensures t q s b (Stop c.args.code)
+    (inr (c.args.code, refl)) c.stop.result c.stop.ensures.called in
     λ stop v jobs fits. note_fits was.limit (told_of v t s b) (told_of v q s b) jobs n.0 stop (n.1 v) n.2 fits

@@ -14,9 +14,11 @@ returns-in-Ok-clause-did g c =
     let rest = c.give_back.ensures.rest in
     parts c.calls_of_runs.ensures (view_of was.tallied) (view_of handed.tallied) (view_of left.tallied)
     (seen_of was.timed) (seen_of c.cancel.new.pass) (seen_of handed.timed) (seen_of left.timed)
-    (g.B.Book.told was.book) (g.B.Book.told handed.book) (g.B.Book.told left.book) (name_of_watch c.finish-done.result.watch) c.args.session.watch
+    (g.B.Book.told was.book) (g.B.Book.told handed.book) (g.B.Book.told left.book)
+    (name_of_watch c.finish-done.result.watch) c.args.session.watch
     _ (finished_held c.args.session c.args.end) c.hand-stopped.result c.hand-stopped.result
-    c.finish-done.ensures.watch c.cancel.ensures.cancels c.finish-done.ensures.done c.hand-stopped.ensures.did (inl refl)
+    c.finish-done.ensures.watch c.cancel.ensures.cancels c.finish-done.ensures.done c.hand-stopped.ensures.did
+    (inl refl)
     (ap (λ k. view_of k) rest.1) (ap (λ k. seen_of k) rest.0) (ap (λ k. g.B.Book.told k) rest.3)
 
 pub returns-in-Err-clause-did : goal.returns-in-Err-clause-did
@@ -27,7 +29,9 @@ returns-in-Err-clause-did g c =
     let rest = c.give_back.ensures.rest in
     parts c.calls_of_runs.ensures (view_of was.tallied) (view_of handed.tallied) (view_of left.tallied)
     (seen_of was.timed) (seen_of c.cancel.new.pass) (seen_of handed.timed) (seen_of left.timed)
-    (g.B.Book.told was.book) (g.B.Book.told handed.book) (g.B.Book.told left.book) (name_of_watch c.finish-done.result.watch) c.args.session.watch
+    (g.B.Book.told was.book) (g.B.Book.told handed.book) (g.B.Book.told left.book)
+    (name_of_watch c.finish-done.result.watch) c.args.session.watch
     _ (finished_held c.args.session c.args.end) c.hand-stopped.result (Some spent)
-    c.finish-done.ensures.watch c.cancel.ensures.cancels c.finish-done.ensures.done c.hand-stopped.ensures.did (inr refl)
+    c.finish-done.ensures.watch c.cancel.ensures.cancels c.finish-done.ensures.done c.hand-stopped.ensures.did
+    (inr refl)
     (ap (λ k. view_of k) rest.1) (ap (λ k. seen_of k) rest.0) (ap (λ k. g.B.Book.told k) rest.3)

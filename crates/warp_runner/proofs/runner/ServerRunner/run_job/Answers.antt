@@ -16,8 +16,11 @@ returns-in-Serve-clause-ran g c =
     let b = g.B.Book.told was.book in
     let u = told_of (mgr_view c.args.pass.now) t s b in
     let left = c.serve.new.self in
-    let w = told_of (mgr_view c.serve.new.pass) (view_of left.tallied) (seen_of left.timed) (g.B.Book.told left.book) in
-    λ f kind same. runs_connection was.limit f c.args.marks u w c.serve.result same c.in-Serve.session.value (kind ∙ ap (λ j. Kinds.Job (tag_of j)) c.in-Serve.is) c.serve.ensures.did
+    let w = told_of (mgr_view c.serve.new.pass) (view_of left.tallied) (seen_of left.timed)
+    (g.B.Book.told left.book) in
+    λ f kind same.
+    runs_connection was.limit f c.args.marks u w c.serve.result same c.in-Serve.session.value
+    (kind ∙ ap (λ j. Kinds.Job (tag_of j)) c.in-Serve.is, c.serve.ensures.counted) c.serve.ensures.did
 
 pub returns-in-Listen-clause-ran : goal.returns-in-Listen-clause-ran
 returns-in-Listen-clause-ran g c =
@@ -27,5 +30,8 @@ returns-in-Listen-clause-ran g c =
     let b = g.B.Book.told was.book in
     let u = told_of (mgr_view c.args.pass.now) t s b in
     let left = c.listen.new.self in
-    let w = told_of (mgr_view c.listen.new.pass) (view_of left.tallied) (seen_of left.timed) (g.B.Book.told left.book) in
-    λ f kind same. runs_listener was.limit f c.args.marks u w c.listen.result same c.in-Listen.listening.value (kind ∙ ap (λ j. Kinds.Job (tag_of j)) c.in-Listen.is) c.listen.ensures.did
+    let w = told_of (mgr_view c.listen.new.pass) (view_of left.tallied) (seen_of left.timed)
+    (g.B.Book.told left.book) in
+    λ f kind same.
+    runs_listener was.limit f c.args.marks u w c.listen.result same c.in-Listen.listening.value
+    (kind ∙ ap (λ j. Kinds.Job (tag_of j)) c.in-Listen.is) c.listen.ensures.did

@@ -21,9 +21,12 @@ returns-then-not-is_alive-clause-did g c =
     let v = told_of m (view_of alive.tallied) (seen_of alive.timed) (g.B.Book.told alive.book) in
     let h = c.args.session.value in
     let left = c.end.new.self in
-    let w = told_of (mgr_view c.end.new.pass) (view_of left.tallied) (seen_of left.timed) (g.B.Book.told left.book) in
-    let tickled = subst (λ n. Did u (watched (Tickle n false ∷ [])) [] v) (ap (λ y. y.watch) c.deref-2.ensures) (c.if-not-is_alive.ensures.did m) in
-    let ended = subst (λ (y : Held). EndedSo v c.end.result w y TimedOut) c.into_inner.ensures c.end.ensures.did in
+    let w =
+    told_of (mgr_view c.end.new.pass) (view_of left.tallied) (seen_of left.timed) (g.B.Book.told left.book) in
+    let tickled = subst (λ n. Did u (watched (Tickle n false ∷ [])) [] v)
+    (ap (λ y. y.watch) c.deref-3.ensures) (c.if-not-is_alive.ensures.did m) in
+    let ended =
+    subst (λ (y : Held). EndedSo v c.end.result w y TimedOut) c.into_inner.ensures c.end.ensures.did in
     ran_as u w c.after.result _ (IsConnectionRun h c.args.marks) c.after.ensures
     (runs_gone c.calls_of_runs.ensures h c.args.marks u v w c.end.result tickled ended)
 
@@ -39,16 +42,21 @@ returns-in-Waits-clause-did g c =
     let rest = c.bring_on.ensures.rest in
     let x = told_of m (view_of on.tallied) (seen_of on.timed) (g.B.Book.told on.book) in
     let k = c.bring_on.new.session in
-    let same = told_same m (view_of alive.tallied) (view_of on.tallied) (seen_of alive.timed) (seen_of on.timed) (g.B.Book.told alive.book) (g.B.Book.told on.book)
+    let same = told_same m (view_of alive.tallied) (view_of on.tallied) (seen_of alive.timed)
+    (seen_of on.timed) (g.B.Book.told alive.book) (g.B.Book.told on.book)
     (ap (λ y. view_of y) rest.1) (ap (λ y. seen_of y) rest.0) (ap (λ y. g.B.Book.told y) rest.3) in
     let tickled = subst (λ (y : ServeTold). Did u (watched (Tickle h.watch true ∷ [])) [] y) same
-    (subst (λ n. Did u (watched (Tickle n true ∷ [])) [] v) (ap (λ y. y.watch) c.deref-2.ensures) (c.if-not-is_alive.ensures.did m)) in
+    (subst (λ n. Did u (watched (Tickle n true ∷ [])) [] v) (ap (λ y. y.watch) c.deref-3.ensures)
+    (c.if-not-is_alive.ensures.did m)) in
     let left = c.register.new.self in
-    let w = told_of (mgr_view c.register.new.pass) (view_of left.tallied) (seen_of left.timed) (g.B.Book.told left.book) in
+    let w = told_of (mgr_view c.register.new.pass) (view_of left.tallied) (seen_of left.timed)
+    (g.B.Book.told left.book) in
     let did = c.in-Waits.ensures.brought in
-    let registered = subst (λ n. RanSo x c.register.result w (IsRegistering k c.in-Waits.dir (Some n))) c.mark_of.ensures c.register.ensures.did in
+    let registered = subst (λ n. RanSo x c.register.result w (IsRegistering k c.in-Waits.dir (Some n)))
+    c.mark_of.ensures c.register.ensures.did in
     runs_on c.calls_of_runs.ensures h c.args.marks u x w k c.in-Waits.dir c.register.result tickled
-    (subst (λ (y : Held). IsBroughtOn y k) c.deref_mut.ensures.value did.0) (did.1 ∙ ap (λ (y : Held). y.number + 1) c.deref_mut.ensures.value) registered
+    (subst (λ (y : Held). IsBroughtOn y k) c.deref_mut.ensures.value did.0)
+    (did.1 ∙ ap (λ (y : Held). y.number + 1) c.deref_mut.ensures.value) registered
 
 pub returns-in-Over-clause-did : goal.returns-in-Over-clause-did
 returns-in-Over-clause-did g c =
@@ -62,17 +70,22 @@ returns-in-Over-clause-did g c =
     let rest = c.bring_on.ensures.rest in
     let x = told_of m (view_of on.tallied) (seen_of on.timed) (g.B.Book.told on.book) in
     let k = c.bring_on.new.session in
-    let same = told_same m (view_of alive.tallied) (view_of on.tallied) (seen_of alive.timed) (seen_of on.timed) (g.B.Book.told alive.book) (g.B.Book.told on.book)
+    let same = told_same m (view_of alive.tallied) (view_of on.tallied) (seen_of alive.timed)
+    (seen_of on.timed) (g.B.Book.told alive.book) (g.B.Book.told on.book)
     (ap (λ y. view_of y) rest.1) (ap (λ y. seen_of y) rest.0) (ap (λ y. g.B.Book.told y) rest.3) in
     let tickled = subst (λ (y : ServeTold). Did u (watched (Tickle h.watch true ∷ [])) [] y) same
-    (subst (λ n. Did u (watched (Tickle n true ∷ [])) [] v) (ap (λ y. y.watch) c.deref-2.ensures) (c.if-not-is_alive.ensures.did m)) in
+    (subst (λ n. Did u (watched (Tickle n true ∷ [])) [] v) (ap (λ y. y.watch) c.deref-3.ensures)
+    (c.if-not-is_alive.ensures.did m)) in
     let left = c.end-stopped.new.self in
-    let w = told_of (mgr_view c.end-stopped.new.pass) (view_of left.tallied) (seen_of left.timed) (g.B.Book.told left.book) in
+    let w = told_of (mgr_view c.end-stopped.new.pass) (view_of left.tallied) (seen_of left.timed)
+    (g.B.Book.told left.book) in
     let did = c.in-Over.ensures.brought in
-    let ended = subst (λ (y : Held). EndedSo x c.end-stopped.result w y (Ended c.in-Over.end)) c.into_inner-in-Over.ensures c.end-stopped.ensures.did in
+    let ended = subst (λ (y : Held). EndedSo x c.end-stopped.result w y (Ended c.in-Over.end))
+    c.into_inner-in-Over.ensures c.end-stopped.ensures.did in
     ran_as u w c.after-in-Over.result _ (IsConnectionRun h c.args.marks) c.after-in-Over.ensures
     (runs_over c.calls_of_runs.ensures h c.args.marks u x w k c.in-Over.end c.end-stopped.result tickled
-    (subst (λ (y : Held). IsBroughtOn y k) c.deref_mut.ensures.value did.0) (did.1 ∙ ap (λ (y : Held). y.number) c.deref_mut.ensures.value) ended)
+    (subst (λ (y : Held). IsBroughtOn y k) c.deref_mut.ensures.value did.0)
+    (did.1 ∙ ap (λ (y : Held). y.number) c.deref_mut.ensures.value) ended)
 
 pub returns-in-Spent-clause-did : goal.returns-in-Spent-clause-did
 returns-in-Spent-clause-did g c =
@@ -86,8 +99,11 @@ returns-in-Spent-clause-did g c =
     let rest = c.bring_on.ensures.rest in
     let x = told_of m (view_of on.tallied) (seen_of on.timed) (g.B.Book.told on.book) in
     let k = c.bring_on.new.session in
-    let same = told_same m (view_of alive.tallied) (view_of on.tallied) (seen_of alive.timed) (seen_of on.timed) (g.B.Book.told alive.book) (g.B.Book.told on.book)
+    let same = told_same m (view_of alive.tallied) (view_of on.tallied) (seen_of alive.timed)
+    (seen_of on.timed) (g.B.Book.told alive.book) (g.B.Book.told on.book)
     (ap (λ y. view_of y) rest.1) (ap (λ y. seen_of y) rest.0) (ap (λ y. g.B.Book.told y) rest.3) in
     let tickled = subst (λ (y : ServeTold). Did u (watched (Tickle h.watch true ∷ [])) [] y) same
-    (subst (λ n. Did u (watched (Tickle n true ∷ [])) [] v) (ap (λ y. y.watch) c.deref-2.ensures) (c.if-not-is_alive.ensures.did m)) in
-    ran_as u x c.after-in-Spent.result _ (IsConnectionRun h c.args.marks) c.after-in-Spent.ensures (runs_spent h c.args.marks u x tickled)
+    (subst (λ n. Did u (watched (Tickle n true ∷ [])) [] v) (ap (λ y. y.watch) c.deref-3.ensures)
+    (c.if-not-is_alive.ensures.did m)) in
+    ran_as u x c.after-in-Spent.result _ (IsConnectionRun h c.args.marks) c.after-in-Spent.ensures
+    (runs_spent h c.args.marks u x tickled)

@@ -17,9 +17,11 @@ returns-in-Ok-clause-did g c =
     let u = told_of (mgr_view c.args.pass.now) t s b in
     let v = told_of (mgr_view c.open_until_given.new.pass) t s b in
     let left = c.start_at.new.self in
-    let w = told_of (mgr_view c.start_at.new.pass) (view_of left.tallied) (seen_of left.timed) (g.B.Book.told left.book) in
+    let w = told_of (mgr_view c.start_at.new.pass) (view_of left.tallied) (seen_of left.timed)
+    (g.B.Book.told left.book) in
     let r = c.in-Ok.ensures.opened in
-    starts (g.P.Listener.Listener.told c.args.listener) c.calls_of_runs.ensures u v w c.in-Ok.opening c.start_at.result r.0 (r.1 t s b) r.2 c.start_at.ensures.did
+    starts (g.P.Listener.Listener.told c.args.listener) c.calls_of_runs.ensures u v w c.in-Ok.opening
+    c.start_at.result r.0 (r.1 t s b) r.2 c.start_at.ensures.did
 
 pub returns-in-Err-clause-did : goal.returns-in-Err-clause-did
 returns-in-Err-clause-did g c =
@@ -34,4 +36,5 @@ returns-in-Err-clause-did g c =
     (starts_never (g.P.Listener.Listener.told c.args.listener) u v (r.0, r.1 t s b, r.2))
 
 pub returns-in-Err-clause-faulted : goal.returns-in-Err-clause-faulted
-returns-in-Err-clause-faulted g c = other_code 10 c.after.result.stopped _ (ap (λ x. x.stopped) c.after.ensures) (inr (omega arith))
+returns-in-Err-clause-faulted g c =
+    other_code 10 c.after.result.stopped _ (ap (λ x. x.stopped) c.after.ensures) (inr (omega arith))

@@ -21,11 +21,16 @@ returns-clause-fits g c =
     let q = seen_of c.sweep.new.pass in
     let v = told_of (mgr_view c.args.pass.now) t q b in
     let left = c.time_out_all.new.self in
-    let w = told_of (mgr_view c.time_out_all.new.pass) (view_of left.tallied) (seen_of left.timed) (g.B.Book.told left.book) in
+    let w = told_of (mgr_view c.time_out_all.new.pass) (view_of left.tallied) (seen_of left.timed)
+    (g.B.Book.told left.book) in
     let given = c.sweep.new.out in
-    let did = did_watch c.calls_of_runs.ensures (mgr_view c.args.pass.now) t s q b (Sweep given ∷ []) c.sweep.ensures.sweeps.call in
-    let r = sweeps_so c.calls_of_runs.ensures u v w c.time_out_all.result given did c.time_out_all.ensures.did in
-    λ stop jobs fits. subst (λ n. FitsUntil n stop w jobs) (sym c.time_out_all.ensures.same.1) (sweep_fits was.limit u w jobs r.0 c.time_out_all.result [] r.1 r.2 stop fits)
+    let did = did_watch c.calls_of_runs.ensures (mgr_view c.args.pass.now) t s q b
+    (Sweep given ∷ []) c.sweep.ensures.sweeps.call in
+    let r =
+    sweeps_so c.calls_of_runs.ensures u v w c.time_out_all.result given did c.time_out_all.ensures.did in
+    λ stop jobs fits.
+    subst (λ n. FitsUntil n stop w jobs) (sym c.time_out_all.ensures.same.1)
+    (sweep_fits was.limit u w jobs r.0 c.time_out_all.result [] r.1 r.2 stop fits)
 
 pub returns-clause-stops : goal.returns-clause-stops
 returns-clause-stops g c =
@@ -37,11 +42,16 @@ returns-clause-stops g c =
     let q = seen_of c.sweep.new.pass in
     let v = told_of (mgr_view c.args.pass.now) t q b in
     let left = c.time_out_all.new.self in
-    let w = told_of (mgr_view c.time_out_all.new.pass) (view_of left.tallied) (seen_of left.timed) (g.B.Book.told left.book) in
+    let w = told_of (mgr_view c.time_out_all.new.pass) (view_of left.tallied) (seen_of left.timed)
+    (g.B.Book.told left.book) in
     let given = c.sweep.new.out in
-    let did = did_watch c.calls_of_runs.ensures (mgr_view c.args.pass.now) t s q b (Sweep given ∷ []) c.sweep.ensures.sweeps.call in
-    let r = sweeps_so c.calls_of_runs.ensures u v w c.time_out_all.result given did c.time_out_all.ensures.did in
-    λ jobs fits. subst (λ n. FitsUntil n c.time_out_all.result w jobs) (sym c.time_out_all.ensures.same.1) (sweep_stops was.limit u w jobs r.0 c.time_out_all.result [] r.1 r.2 fits)
+    let did = did_watch c.calls_of_runs.ensures (mgr_view c.args.pass.now) t s q b
+    (Sweep given ∷ []) c.sweep.ensures.sweeps.call in
+    let r =
+    sweeps_so c.calls_of_runs.ensures u v w c.time_out_all.result given did c.time_out_all.ensures.did in
+    λ jobs fits.
+    subst (λ n. FitsUntil n c.time_out_all.result w jobs) (sym c.time_out_all.ensures.same.1)
+    (sweep_stops was.limit u w jobs r.0 c.time_out_all.result [] r.1 r.2 fits)
 
 pub returns-clause-swept : goal.returns-clause-swept
 returns-clause-swept g c =
@@ -53,8 +63,11 @@ returns-clause-swept g c =
     let q = seen_of c.sweep.new.pass in
     let v = told_of (mgr_view c.args.pass.now) t q b in
     let left = c.time_out_all.new.self in
-    let w = told_of (mgr_view c.time_out_all.new.pass) (view_of left.tallied) (seen_of left.timed) (g.B.Book.told left.book) in
+    let w = told_of (mgr_view c.time_out_all.new.pass) (view_of left.tallied) (seen_of left.timed)
+    (g.B.Book.told left.book) in
     let given = c.sweep.new.out in
-    let did = did_watch c.calls_of_runs.ensures (mgr_view c.args.pass.now) t s q b (Sweep given ∷ []) c.sweep.ensures.sweeps.call in
-    let r = sweeps_so c.calls_of_runs.ensures u v w c.time_out_all.result given did c.time_out_all.ensures.did in
+    let did = did_watch c.calls_of_runs.ensures (mgr_view c.args.pass.now) t s q b
+    (Sweep given ∷ []) c.sweep.ensures.sweeps.call in
+    let r =
+    sweeps_so c.calls_of_runs.ensures u v w c.time_out_all.result given did c.time_out_all.ensures.did in
     swept_once u.timed w.timed r.0 c.time_out_all.result r.2 r.1.timed

@@ -16,8 +16,17 @@ loop-opening-init g c =
       mgr = c.requires.mgr;
       own = c.requires.own;
       same = (refl, refl);
-      stays = (grown_none (view_of was.cached) (view_of was.tallied), record { same_polled = refl; same_faults = refl });
-      gone = gone_none IsTimingOut c.args.expired.now (λ acts. Did (told_of (mgr_view c.args.pass.now) (view_of was.tallied) (seen_of was.timed) (g.B.Book.told was.book)) acts [] (told_of (mgr_view c.args.pass.now) (view_of was.tallied) (seen_of was.timed) (g.B.Book.told was.book))) (did_none c.calls_of_runs.ensures (told_of (mgr_view c.args.pass.now) (view_of was.tallied) (seen_of was.timed) (g.B.Book.told was.book)));
+      stays = (
+        grown_none (view_of was.cached) (view_of was.tallied),
+        record { same_polled = refl; same_faults = refl },
+      );
+      gone =
+          gone_none IsTimingOut c.args.expired.now (λ acts.
+          Did (told_of (mgr_view c.args.pass.now) (view_of was.tallied) (seen_of was.timed)
+          (g.B.Book.told was.book)) acts [] (told_of (mgr_view c.args.pass.now)
+          (view_of was.tallied) (seen_of was.timed) (g.B.Book.told was.book)))
+          (did_none c.calls_of_runs.ensures (told_of (mgr_view c.args.pass.now) (view_of was.tallied)
+          (seen_of was.timed) (g.B.Book.told was.book)));
     }
 
 pub returns-in-Some-time_out-clause-did : goal.returns-in-Some-time_out-clause-did
@@ -26,7 +35,19 @@ returns-in-Some-time_out-clause-did g c =
     let now = c.loop-opening.self in
     let next = c.time_out.new.self in
     let d = c.in-Some-time_out.ensures.did in
-    gone_stopped IsTimingOut c.args.expired.now c.in-Some.opening c.loop-opening.expired c.pop_first.new.self (λ acts. Did (told_of (mgr_view c.args.pass.now) (view_of was.tallied) (seen_of was.timed) (g.B.Book.told was.book)) acts [] (told_of (mgr_view c.loop-opening.pass) (view_of now.tallied) (seen_of now.timed) (g.B.Book.told now.book))) (λ acts. Did (told_of (mgr_view c.args.pass.now) (view_of was.tallied) (seen_of was.timed) (g.B.Book.told was.book)) acts [] (told_of (mgr_view c.time_out.new.pass) (view_of next.tallied) (seen_of next.timed) (g.B.Book.told next.book))) d.0 (Some c.in-Some-time_out.code) c.in-Some-time_out.code c.loop-opening.invariant.gone c.in-Some.ensures d.2 refl (λ a m. did_then c.calls_of_runs.ensures (told_of (mgr_view c.args.pass.now) (view_of was.tallied) (seen_of was.timed) (g.B.Book.told was.book)) (told_of (mgr_view c.loop-opening.pass) (view_of now.tallied) (seen_of now.timed) (g.B.Book.told now.book)) (told_of (mgr_view c.time_out.new.pass) (view_of next.tallied) (seen_of next.timed) (g.B.Book.told next.book)) a d.0 [] [] m d.1)
+    gone_stopped IsTimingOut c.args.expired.now c.in-Some.opening c.loop-opening.expired c.pop_first.new.self
+    (λ acts. Did (told_of (mgr_view c.args.pass.now) (view_of was.tallied) (seen_of was.timed)
+    (g.B.Book.told was.book)) acts [] (told_of (mgr_view c.loop-opening.pass)
+    (view_of now.tallied) (seen_of now.timed) (g.B.Book.told now.book)))
+    (λ acts. Did (told_of (mgr_view c.args.pass.now) (view_of was.tallied) (seen_of was.timed)
+    (g.B.Book.told was.book)) acts [] (told_of (mgr_view c.time_out.new.pass)
+    (view_of next.tallied) (seen_of next.timed) (g.B.Book.told next.book)))
+    d.0 (Some c.in-Some-time_out.code) c.in-Some-time_out.code c.loop-opening.invariant.gone
+    c.in-Some.ensures d.2 refl (λ a m. did_then c.calls_of_runs.ensures
+    (told_of (mgr_view c.args.pass.now) (view_of was.tallied) (seen_of was.timed) (g.B.Book.told was.book))
+    (told_of (mgr_view c.loop-opening.pass) (view_of now.tallied) (seen_of now.timed)
+    (g.B.Book.told now.book)) (told_of (mgr_view c.time_out.new.pass) (view_of next.tallied)
+    (seen_of next.timed) (g.B.Book.told next.book)) a d.0 [] [] m d.1)
 
 pub loop-opening-preserved : goal.loop-opening-preserved
 loop-opening-preserved g c =
@@ -39,14 +60,34 @@ loop-opening-preserved g c =
       own = e.own;
       same = (e.same.0 ∙ c.loop-opening.invariant.same.0, e.same.1 ∙ c.loop-opening.invariant.same.1);
       stays = (
-        grown_then (view_of was.cached) (view_of now.cached) (view_of next.cached) (view_of was.tallied) (view_of now.tallied) (view_of next.tallied) c.loop-opening.invariant.stays.0 e.stays.0,
-        record { same_polled = e.stays.1.same_polled ∙ c.loop-opening.invariant.stays.1.same_polled; same_faults = e.stays.1.same_faults ∙ c.loop-opening.invariant.stays.1.same_faults },
+        grown_then (view_of was.cached) (view_of now.cached) (view_of next.cached) (view_of was.tallied)
+            (view_of now.tallied) (view_of next.tallied) c.loop-opening.invariant.stays.0 e.stays.0,
+        record {
+          same_polled = e.stays.1.same_polled ∙ c.loop-opening.invariant.stays.1.same_polled;
+          same_faults = e.stays.1.same_faults ∙ c.loop-opening.invariant.stays.1.same_faults;
+        },
       );
-      gone = gone_on IsTimingOut c.args.expired.now c.in-Some.opening c.loop-opening.expired c.pop_first.new.self (λ acts. Did (told_of (mgr_view c.args.pass.now) (view_of was.tallied) (seen_of was.timed) (g.B.Book.told was.book)) acts [] (told_of (mgr_view c.loop-opening.pass) (view_of now.tallied) (seen_of now.timed) (g.B.Book.told now.book))) (λ acts. Did (told_of (mgr_view c.args.pass.now) (view_of was.tallied) (seen_of was.timed) (g.B.Book.told was.book)) acts [] (told_of (mgr_view c.time_out.new.pass) (view_of next.tallied) (seen_of next.timed) (g.B.Book.told next.book))) d.0 c.loop-opening.invariant.gone c.in-Some.ensures d.2 (λ a m. did_then c.calls_of_runs.ensures (told_of (mgr_view c.args.pass.now) (view_of was.tallied) (seen_of was.timed) (g.B.Book.told was.book)) (told_of (mgr_view c.loop-opening.pass) (view_of now.tallied) (seen_of now.timed) (g.B.Book.told now.book)) (told_of (mgr_view c.time_out.new.pass) (view_of next.tallied) (seen_of next.timed) (g.B.Book.told next.book)) a d.0 [] [] m d.1);
+      gone =
+          gone_on IsTimingOut c.args.expired.now c.in-Some.opening c.loop-opening.expired c.pop_first.new.self
+          (λ acts. Did (told_of (mgr_view c.args.pass.now) (view_of was.tallied) (seen_of was.timed)
+          (g.B.Book.told was.book)) acts [] (told_of (mgr_view c.loop-opening.pass)
+          (view_of now.tallied) (seen_of now.timed) (g.B.Book.told now.book)))
+          (λ acts. Did (told_of (mgr_view c.args.pass.now) (view_of was.tallied) (seen_of was.timed)
+          (g.B.Book.told was.book)) acts [] (told_of (mgr_view c.time_out.new.pass)
+          (view_of next.tallied) (seen_of next.timed) (g.B.Book.told next.book)))
+          d.0 c.loop-opening.invariant.gone c.in-Some.ensures d.2 (λ a m. did_then c.calls_of_runs.ensures
+          (told_of (mgr_view c.args.pass.now) (view_of was.tallied) (seen_of was.timed)
+          (g.B.Book.told was.book)) (told_of (mgr_view c.loop-opening.pass) (view_of now.tallied)
+          (seen_of now.timed) (g.B.Book.told now.book)) (told_of (mgr_view c.time_out.new.pass)
+          (view_of next.tallied) (seen_of next.timed) (g.B.Book.told next.book)) a d.0 [] [] m d.1);
     }
 
 pub returns-clause-did : goal.returns-clause-did
 returns-clause-did g c =
     let was = c.args.self.now in
     let now = c.loop-opening.self in
-    gone_all IsTimingOut c.args.expired.now c.loop-opening.expired (λ acts. Did (told_of (mgr_view c.args.pass.now) (view_of was.tallied) (seen_of was.timed) (g.B.Book.told was.book)) acts [] (told_of (mgr_view c.loop-opening.pass) (view_of now.tallied) (seen_of now.timed) (g.B.Book.told now.book))) c.loop-opening.invariant.gone c.in_default.ensures.0
+    gone_all IsTimingOut c.args.expired.now c.loop-opening.expired (λ acts.
+    Did (told_of (mgr_view c.args.pass.now) (view_of was.tallied) (seen_of was.timed)
+    (g.B.Book.told was.book)) acts [] (told_of (mgr_view c.loop-opening.pass)
+    (view_of now.tallied) (seen_of now.timed) (g.B.Book.told now.book)))
+    c.loop-opening.invariant.gone c.in_default.ensures.0

@@ -9,7 +9,8 @@ returns-in-Done-clause-did g c =
     let t = view_of was.tallied in
     let s = seen_of was.timed in
     let b = g.B.Book.told was.book in
-    turns_away c.calls_of_runs.ensures t (view_of c.turn_away.new.pass) s b c.named.result c.in-Done.field-0 c.named.ensures c.in-Done.ensures.called.own
+    turns_away c.calls_of_runs.ensures t (view_of c.turn_away.new.pass) s b c.named.result
+    c.in-Done.field-0 c.named.ensures c.in-Done.ensures.called.own
 
 pub returns-in-Spent-clause-did : goal.returns-in-Spent-clause-did
 returns-in-Spent-clause-did g c =
@@ -17,4 +18,5 @@ returns-in-Spent-clause-did g c =
     let t = view_of was.tallied in
     let s = seen_of was.timed in
     let b = g.B.Book.told was.book in
-    turns_none c.calls_of_runs.ensures t (view_of c.turn_away.new.pass) s b c.after.result c.after.ensures c.in-Spent.ensures.called.own
+    turns_none c.calls_of_runs.ensures t
+    (view_of c.turn_away.new.pass) s b c.after.result c.after.ensures c.in-Spent.ensures.called.own

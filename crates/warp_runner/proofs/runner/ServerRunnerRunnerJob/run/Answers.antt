@@ -22,14 +22,17 @@ returns-clause-fits g c =
     let left = c.run_job-ran.new.self in
     let e = c.run_job-ran.ensures in
     let ran = c.run_job-ran.result in
-    let u = told_of (mgr_view c.args.pass.now) (view_of was.tallied) (seen_of was.timed) (g.B.Book.told was.book) in
-    let w = told_of (mgr_view c.run_job-ran.new.pass) (view_of left.tallied) (seen_of left.timed) (g.B.Book.told left.book) in
+    let u =
+    told_of (mgr_view c.args.pass.now) (view_of was.tallied) (seen_of was.timed) (g.B.Book.told was.book) in
+    let w = told_of (mgr_view c.run_job-ran.new.pass) (view_of left.tallied) (seen_of left.timed)
+    (g.B.Book.told left.book) in
     let kind = ap (λ j. kind_of_job (λ job. tag_of job) j) (sym c.in-Some.ensures.value) in
     λ o rest pre.
     let f = firing_of (λ job. tag_of job) o c.args.fired.now in (
       e.own,
       subst (λ n. FitsUntil n ran.stopped w rest) (sym e.same.1)
-          (run_fits was.limit u w rest f (job_of f (kind_of_job (λ job. tag_of job) c.args.fired.now.job)) (named ran) ran.stopped (ap (λ k. job_of f k) kind) (e.ran f kind refl) pre.1.0),
+          (run_fits was.limit u w rest f (job_of f (kind_of_job (λ job. tag_of job) c.args.fired.now.job))
+          (named ran) ran.stopped (ap (λ k. job_of f k) kind) (e.ran f kind refl) pre.1.0),
     )
 
 pub returns-clause-made : goal.returns-clause-made
@@ -38,4 +41,5 @@ returns-clause-made g c =
     let f = firing_of (λ job. tag_of job) first c.args.fired.now in
     let kind = ap (λ j. kind_of_job (λ job. tag_of job) j) (sym c.in-Some.ensures.value) in
     let ran = c.run_job-ran.ensures.ran f kind refl in
-    subst (λ l. HasMadeCalls (mgr_view c.args.pass.now) l (mgr_view c.run_job-ran.new.pass)) (sym c.outcome.ensures.events) ran.1.made
+    subst (λ l. HasMadeCalls (mgr_view c.args.pass.now) l (mgr_view c.run_job-ran.new.pass))
+    (sym c.outcome.ensures.events) ran.1.made

@@ -13,4 +13,9 @@ returns-clause-fits g c =
     let t = view_of was.tallied in
     let s = seen_of was.timed in
     let b = g.B.Book.told was.book in
-    λ v rest o d m pre. (pre.0, dropped_fits was.limit (told_of v t s b) (told_of v t s b) rest (job_at o c.args._key d m (tag_of c.args._job)) was.stop (did_none c.calls_of_runs.ensures (told_of v t s b)) pre.1)
+    λ v rest o d m pre. (
+      pre.0,
+      dropped_fits was.limit (told_of v t s b) (told_of v t s b) rest
+          (job_at o c.args._key d m (tag_of c.args._job)) was.stop
+          (did_none c.calls_of_runs.ensures (told_of v t s b)) pre.1,
+    )

@@ -8,9 +8,11 @@ use Rattle.dispatcher.proofs.tests.plain.WatcherRunJob.run.Goals as goal
 pub returns-in_default-clause-made : goal.returns-in_default-clause-made
 returns-in_default-clause-made g c =
     let v = mgr_view c.args.pass.now in
-    subst (λ (es : List EventName). HasMadeCalls v es v) (sym c.named.ensures) (c.calls_of_runs.ensures.none v)
+    subst (λ (es : List EventName). HasMadeCalls v es v) (sym c.named.ensures)
+    (c.calls_of_runs.ensures.none v)
 
 pub returns-in_default-take-2-clause-made : goal.returns-in_default-take-2-clause-made
 returns-in_default-take-2-clause-made g c =
     let v = mgr_view c.args.pass.now in
-    subst (λ (es : List EventName). HasMadeCalls v es v) (sym c.named-in_default-take-2.ensures) (c.calls_of_runs.ensures.none v)
+    subst (λ (es : List EventName). HasMadeCalls v es v) (sym c.named-in_default-take-2.ensures)
+    (c.calls_of_runs.ensures.none v)

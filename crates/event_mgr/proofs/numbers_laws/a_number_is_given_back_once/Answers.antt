@@ -1,5 +1,0 @@
-use Rattle.event_mgr.proofs.NumbersOut.{given_back}
-use Rattle.event_mgr.proofs.numbers_laws.a_number_is_given_back_once.Goals as goal
-
-pub returns : goal.returns
-returns c = given_back

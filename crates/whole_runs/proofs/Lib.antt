@@ -1,0 +1,14 @@
+pub mod Flows
+pub mod Chains
+pub mod Flowing
+pub mod Leaves
+pub mod RunFlows
+pub mod ListenFlows
+pub mod JournalFlows
+pub mod Numbers
+pub mod PassFlows
+pub mod AllFlows
+pub mod Openings
+pub mod Opened
+pub mod Totals
+pub mod Served
