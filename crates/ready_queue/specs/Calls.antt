@@ -30,9 +30,11 @@ view_of p = untold (view p.seat)
 abbrev pub capacity_of : ReadyQueue → ℕ
 capacity_of q = ruled_capacity q.ring
 
--- the pass is of the queue
+-- the pass is of the queue, and what it has seen is a history of one of this capacity
 abbrev pub IsOf : ReadyQueue → QPass → Type 0
-IsOf q p = IsPassOf q.ring p.seat × ((view_of p).name ≡ capacity_of q ∷ [])
+IsOf q p =
+    IsPassOf q.ring p.seat × ((view_of p).name ≡ capacity_of q ∷ [])
+    × IsQueueHistory (capacity_of q) (view_of p).seen
 
 -- each number is a seat of the pass, so that there is no other pass
 abbrev pub HasAllSeats : View Move → Type 0

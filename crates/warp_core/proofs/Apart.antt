@@ -3,7 +3,6 @@ use Rattle.std.proofs.Common.{◌≡◌, ℕ, zero, suc, ◌<◌, List, [], ◌�
 use Rattle.std.proofs.Common.{ap, ◌∙◌, subst, arith}
 use Rattle.std.proofs.lemmas.List.Elements.{All-cons, All-nil, All-head, All-tail}
 use Rattle.outside.specs.declared.files.Files.{Ghosts}
-use Rattle.turn_cell.specs.declared.view.View.{View}
 use Rattle.turn_cell.specs.Weights.{weigh}
 use Rattle.level.specs.Leveling.{IsLevel}
 use Rattle.std.proofs.lemmas.List.{length-map}
@@ -25,10 +24,10 @@ use Rattle.warp_core.specs.declared.served.ServeEnd.{ServeEnd}
 use Rattle.warp_core.specs.declared.served.ServeEnd.TheVariants.{Over, PollFault, AcceptFault, Spent}
 use Rattle.warp_core.specs.declared.served.ServeEnd.TheVariants.{NoMemory}
 use Rattle.warp_tally.specs.Accounts.{accepts, accepts_any, finishes, finishes_any, turns_away}
-use Rattle.warp_core.specs.Ends.{EndsSo, HasCause, IsOver}
+use Rattle.warp_core.specs.Ends.{EndsSo, HasCause}
 use Rattle.warp_core.specs.Events.{KeepsEvents}
 use Rattle.warp_core.specs.Stops.{stops}
-use Rattle.warp_core.specs.Journals.{AreExplained, SomeDid, told_at}
+use Rattle.warp_core.specs.Journals.{AreExplained, SomeDid}
 use Rattle.warp_core.specs.Making.{HasParts}
 use Rattle.warp_core.specs.Rows.{OneDid, Serves, known_by, passes_of, told_by}
 use Rattle.warp_core.proofs.Caused.{cause_on}
@@ -45,6 +44,7 @@ module _ {A B L : Type 0} (known : B → PassView L) (part : A → B) where
           subst IsLevel (map_map (λ y. stripe_view s (known y).mgr) part xs) (level.mgr.stripes s low);
       numbers = subst IsLevel (map_map (λ y. (known y).mgr.numbers) part xs) level.mgr.numbers;
     };
+    queue = subst IsLevel (map_map (λ y. (known y).queue) part xs) level.queue;
     cache = subst IsLevel (map_map (λ y. (known y).cache) part xs) level.cache;
     tally = subst IsLevel (map_map (λ y. (known y).tally) part xs) level.tally;
   }

@@ -1,11 +1,10 @@
--- What all dispatchers named, put, took, dispatched and hold, together.
+-- Where the events are that all dispatchers named: in the queue, dispatched, or in a hand.
 use Rattle.std.proofs.Common.{◌≡◌, ℕ, zero, suc, ◌+◌, ◌<◌, ◌≤◌, ⊎_elim, List, [], ◌∷◌, ◌++◌, All, refl}
-use Rattle.std.proofs.Common.{sym, ap, ◌∙◌, subst, arith, Bool, true, false}
+use Rattle.std.proofs.Common.{sym, ap, ◌∙◌, arith, Bool, true, false}
 use Rattle.std.specs.Prelude.{Option, Some, None, ◌==◌, ◌&&◌, not, filter}
 use Rattle.std.specs.Option.{option_to_list}
 use Rattle.std.proofs.lemmas.Bool.{and_from, eq-eqb}
 use Rattle.std.proofs.lemmas.List.Elements.{All-head, All-tail}
-use Rattle.reg_keys.specs.declared.opening.Opening.{Opening}
 use Rattle.reg_keys.specs.declared.event.EventName.{EventName}
 use Rattle.reg_keys.specs.declared.entry.Entry.{Entry}
 use Rattle.reg_keys.specs.declared.entry.Entry.TheVariants.{Open, Report, Register, Withdraw, Ask, Dispatch}
@@ -22,14 +21,17 @@ use Rattle.reg_keys.specs.ListLaws.{many_append, many_filter_le, same_self}
 use Rattle.reg_keys.specs.Promises.{weight}
 use Rattle.reg_keys.specs.Tests.{one_if, how_many, same, same_event, IsIn}
 use Rattle.turn_cell.specs.Weights.{weigh}
-use Rattle.turn_cell.specs.ListLaws.{same_or}
+use Rattle.turn_cell.specs.View.{own_entries}
+use Rattle.turn_cell.specs.ListLaws.{same_or, weigh-append}
+use Rattle.ready_queue.specs.History.{QueueLog, IsQueueHistory, held_after, put_in, put_of, taken_in, taken_of}
+use Rattle.ready_queue.specs.Weights.{weigh_put, weigh_taken}
 use Rattle.event_mgr.specs.Manager.{seen_in}
 use Rattle.event_mgr.specs.Stripes.{past_in}
 use Rattle.dispatcher.specs.Entries.{named_by}
 use Rattle.warp_passes.specs.Passes.{PassView, IsLawfulPass}
 use Rattle.warp_passes.specs.Levels.{ArePassesLevel, PassesAddUp}
-use Rattle.warp_core.specs.Events.{KeepAllEvents, KeepsEvents, ArePlaced, all_dispatched, all_in_hand}
-use Rattle.warp_core.specs.Events.{all_named, all_put, all_taken, is_event}
+use Rattle.warp_core.specs.Events.{KeepAllEvents, KeepsEvents, all_dispatched, all_in_hand}
+use Rattle.warp_core.specs.Events.{all_named, is_event, queued}
 
 -- ---- tests and sums
 
@@ -162,16 +164,62 @@ in_counts o (x ∷ outs) is = ⊎_elim
     ∙ ap one_if (event_self o.event) in omega arith))
     (λ later. (let r = in_counts o outs later in omega arith)) is
 
+-- ---- a history of the queue
+
+put_weighs : (h : EventName → ℕ) (log : QueueLog) → weigh h (put_in log) ≡ weigh_put h log
+put_weighs h [] = refl
+put_weighs h (m ∷ ms) =
+    let a = weigh-append h (put_of m.1) (put_in ms) in
+    let r = put_weighs h ms in
+    omega arith
+
+taken_weighs : (h : EventName → ℕ) (log : QueueLog) → weigh h (taken_in log) ≡ weigh_taken h log
+taken_weighs h [] = refl
+taken_weighs h (m ∷ ms) =
+    let a = weigh-append h (taken_of m.1) (taken_in ms) in
+    let r = taken_weighs h ms in
+    omega arith
+
+-- what was taken, and then what is held, is what was put
+abbrev pub FirstInFirstOut : Type 0
+FirstInFirstOut =
+    (capacity : ℕ) (log : QueueLog) → IsQueueHistory capacity log
+    → taken_in log ++ held_after log ≡ put_in log
+
 -- ---- all dispatchers
 
 module _ {A L : Type 0} (known : A → PassView L) where
-  sum_places : (xs : List A) → All (λ x. KeepsEvents (known x)) xs → (h : EventName → ℕ)
-      → all_named known h xs + all_taken known h xs
-      ≡ all_put known h xs + all_dispatched known h xs + all_in_hand known h xs
-  sum_places [] keep h = omega arith
-  sum_places (x ∷ xs) keep h =
+  -- the events that all of them put into the queue
+  abbrev all_put : (EventName → ℕ) → List A → ℕ
+  all_put weight xs = weigh (λ x. weigh_put weight (own_entries (known x).queue)) xs
+
+  -- those that all of them took from it
+  abbrev all_taken : (EventName → ℕ) → List A → ℕ
+  all_taken weight xs = weigh (λ x. weigh_taken weight (own_entries (known x).queue)) xs
+
+  sum_moves : (xs : List A) → All (λ x. KeepsEvents (known x)) xs → (h : EventName → ℕ)
+      → all_named known h xs + all_taken h xs
+      ≡ all_put h xs + all_dispatched known h xs + all_in_hand known h xs
+  sum_moves [] keep h = omega arith
+  sum_moves (x ∷ xs) keep h =
       let a = All-head (λ y. KeepsEvents (known y)) x xs keep h in
-      let r = sum_places xs (All-tail (λ y. KeepsEvents (known y)) x xs keep) h in
+      let r = sum_moves xs (All-tail (λ y. KeepsEvents (known y)) x xs keep) h in
+      omega arith
+
+  -- what was put into the queue and not taken lies in it
+  sum_places : (x : A) (xs : List A) → PassesAddUp known x xs → FirstInFirstOut
+      → All (λ y. KeepsEvents (known y)) (x ∷ xs) → (h : EventName → ℕ)
+      → all_named known h (x ∷ xs)
+      ≡ queued known h x + all_dispatched known h (x ∷ xs) + all_in_hand known h (x ∷ xs)
+  sum_places x xs adds first keep h =
+      let log = (known x).queue.seen in
+      let all = sum_moves (x ∷ xs) keep h in
+      let put : all_put h (x ∷ xs) ≡ weigh_put h log = adds.moved (λ m. weigh h (put_of m.1)) in
+      let took : all_taken h (x ∷ xs) ≡ weigh_taken h log = adds.moved (λ m. weigh h (taken_of m.1)) in
+      let held = ap (weigh h) (first adds.allowed.0 log adds.allowed.2) in
+      let both = weigh-append h (taken_in log) (held_after log) in
+      let puts = put_weighs h log in
+      let takes = taken_weighs h log in
       omega arith
 
   -- the passes' calls named an event once at most
@@ -197,10 +245,10 @@ module _ {A L : Type 0} (known : A → PassView L) where
   pub all_placed : ((x : A) (xs : List A) → All (λ y. IsLawfulPass (known y)) (x ∷ xs)
       → ArePassesLevel known (x ∷ xs) → PassesAddUp known x xs)
       → ((firsts : ℕ → ℕ) (pasts : ℕ → List Entry) → AreLegal firsts pasts → HappensOnce firsts pasts)
-      → (xs : List A) → All (λ y. IsLawfulPass (known y)) xs → ArePassesLevel known xs
+      → FirstInFirstOut → (xs : List A) → All (λ y. IsLawfulPass (known y)) xs → ArePassesLevel known xs
       → All (λ y. KeepsEvents (known y)) xs → KeepAllEvents known xs
-  all_placed law once [] lawful level keep = tt
-  all_placed law once (x ∷ xs) lawful level keep =
+  all_placed law once first [] lawful level keep = tt
+  all_placed law once first (x ∷ xs) lawful level keep =
       let adds = law x xs lawful level in
       let happens = once (λ s. 1) (λ s. past_in (seen_in s (known x).mgr)) adds.mgr.legal in
       record {
@@ -208,5 +256,6 @@ module _ {A L : Type 0} (known : A → PassView L) where
         out = λ s low o is.
             just_one (all_named known (is_event o.event) (x ∷ xs)) (sum_once x xs adds happens o.event)
             (sum_out x xs adds s low o is);
-        places = sum_places (x ∷ xs) keep;
+        allowed = adds.allowed;
+        places = sum_places x xs adds first keep;
       }

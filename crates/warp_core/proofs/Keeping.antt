@@ -1,17 +1,14 @@
 -- A dispatcher keeps its events, whatever it does.
-use Rattle.std.proofs.Common.{◌≡◌, ℕ, List, [], ◌∷◌, ◌++◌, refl, sym, ap, ◌∙◌, arith, append-nil}
-use Rattle.reg_keys.specs.declared.opening.Opening.{Opening}
+use Rattle.std.proofs.Common.{◌≡◌, ℕ, List, [], ◌∷◌, ◌++◌, refl, sym, ap, arith, append-nil}
 use Rattle.reg_keys.specs.declared.event.EventName.{EventName}
 use Rattle.reg_keys.specs.declared.entry.Entry.{Entry}
 use Rattle.reg_keys.specs.declared.entry.Entry.TheVariants.{Open, Report, Register, Withdraw, Ask, Dispatch}
 use Rattle.reg_keys.specs.declared.entry.Entry.TheVariants.{Close}
 use Rattle.turn_cell.specs.declared.view.View.{View}
 use Rattle.turn_cell.specs.Weights.{weigh}
-use Rattle.turn_cell.specs.History.{Log, entries_in}
+use Rattle.turn_cell.specs.History.{Log}
 use Rattle.turn_cell.specs.View.{own_entries}
 use Rattle.turn_cell.specs.ListLaws.{weigh-append}
-use Rattle.ready_queue.specs.declared.rule.Move.{Move}
-use Rattle.ready_queue.specs.History.{QueueLog}
 use Rattle.ready_queue.specs.Weights.{weigh_put, weigh_taken}
 use Rattle.event_mgr.specs.Manager.{MgrView}
 use Rattle.dispatcher.specs.Books.{IsBalanced}
@@ -68,9 +65,8 @@ module _ {L : Type 0} where
   keeps_first v new none weight =
       let named = none.calls (λ e. weigh weight (named_by e)) in
       let gone = none.calls (λ e. weigh weight (dispatched_by e)) in
-      let own : own_entries v.queue ≡ [] = ap (entries_in v.queue.classes) new.queue.seen in
-      let put = ap (weigh_put weight) own in
-      let took = ap (weigh_taken weight) own in
+      let put = ap (weigh_put weight) none.moved in
+      let took = ap (weigh_taken weight) none.moved in
       let hand = ap (weigh weight) new.hand in
       omega arith
 
@@ -99,13 +95,12 @@ module _ {L : Type 0} where
   keeps_silent v mgr made keeps = keeps_called v [] mgr v.hand made (sym (append-nil v.hand)) keeps
 
   -- levelling
-  pub keeps_levelled : (v w : PassView L) → OwnsTheSame v w → w.queue ≡ v.queue → w.hand ≡ v.hand
-      → KeepsEvents v → KeepsEvents w
-  keeps_levelled v w owns queue hand keeps weight =
+  pub keeps_levelled : (v w : PassView L) → OwnsTheSame v w → w.hand ≡ v.hand → KeepsEvents v → KeepsEvents w
+  keeps_levelled v w owns hand keeps weight =
       let was = keeps weight in
       let named = owns.calls (λ e. weigh weight (named_by e)) in
       let gone = owns.calls (λ e. weigh weight (dispatched_by e)) in
-      let put = ap (λ (q : View Move). weigh_put weight (own_entries q)) queue in
-      let took = ap (λ (q : View Move). weigh_taken weight (own_entries q)) queue in
+      let put = ap (weigh_put weight) owns.moved in
+      let took = ap (weigh_taken weight) owns.moved in
       let held = ap (weigh weight) hand in
       omega arith

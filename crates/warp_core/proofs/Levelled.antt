@@ -1,5 +1,5 @@
 -- Dispatchers serve on where their passes were brought level.
-use Rattle.std.proofs.Common.{◌≡◌, ℕ, List, [], ◌∷◌, map, length, get_or, All, refl, sym, ap, ◌∙◌, subst}
+use Rattle.std.proofs.Common.{◌≡◌, ℕ, List, [], ◌∷◌, map, get_or, All, sym, ap, ◌∙◌, subst}
 use Rattle.std.proofs.Common.{arith}
 use Rattle.std.proofs.lemmas.List.Elements.{All-cons, All-nil, All-head, All-tail}
 use Rattle.std.specs.Prelude.{Option, Some, None}
@@ -8,7 +8,6 @@ use Rattle.reg_keys.specs.declared.entry.Entry.{Entry}
 use Rattle.turn_cell.specs.declared.view.View.{View}
 use Rattle.turn_cell.specs.Calls.{view_of}
 use Rattle.turn_cell.specs.Weights.{weigh}
-use Rattle.timeout_mgr.specs.declared.view.TimeView.{TimeView}
 use Rattle.timeout_mgr.specs.Passes.{calls_of}
 use Rattle.event_mgr.specs.Manager.{own_weight, number_weight}
 use Rattle.event_mgr.specs.declared.numbers.NumbersEntry.{NumbersEntry}
@@ -17,11 +16,11 @@ use Rattle.poller.specs.Faults.{PollerFaults}
 use Rattle.dispatcher.specs.Stripes.{Each}
 use Rattle.dispatcher.specs.Firings.{Jobs}
 use Rattle.warp_tally.specs.declared.calls.TallyEntry.{TallyEntry}
-use Rattle.warp_books.specs.Books.{BookTold, FinishedTold, IsBookOf}
+use Rattle.warp_books.specs.Books.{BookTold, IsBookOf}
 use Rattle.warp_jobs.specs.declared.job.Job.{Job}
 use Rattle.warp_passes.specs.declared.shared.Shared.{Shared}
 use Rattle.warp_passes.specs.Own.{entries_of}
-use Rattle.warp_passes.specs.Passes.{IsLawfulPass, PassRest, lawful_of}
+use Rattle.warp_passes.specs.Passes.{IsLawfulPass, lawful_of}
 use Rattle.warp_passes.specs.Levels.{OwnsTheSame}
 use Rattle.warp_runner.specs.Acts.{ServeTold, fired_weight, is_all_out}
 use Rattle.warp_runner.specs.Journal.{Deed, FitsUntil, all_of}
@@ -114,8 +113,8 @@ module _ {P F C B G L I X : Type 0} {H : Ghosts F X} (told : B → BookTold) (fa
             (ap (λ (z : Beside). z.polls) beside) owns.tallied
             (ap (λ (z : Beside). z.halted) beside) serves.halts;
         events =
-            keeps_levelled (known_by x) (known_by y) owns (ap (λ (z : Beside). z.passes.queue) beside)
-            (ap (λ (z : Beside). z.passes.hand) beside) serves.events;
+            keeps_levelled (known_by x) (known_by y) owns (ap (λ (z : Beside). z.passes.hand) beside)
+            serves.events;
       }
 
   pub levelled : (xs ys : List (Row P F C B G L I X H)) → All (λ x. Serves told faults s x) xs

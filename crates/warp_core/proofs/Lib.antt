@@ -9,5 +9,4 @@ pub mod Levelled
 pub mod Looked
 pub mod Made
 pub mod RowLists
-pub mod Seen
 pub mod Serving

@@ -16,6 +16,7 @@ use Rattle.std.specs.Arc.{arc_value}
 use Rattle.outside.specs.declared.files.Files.{Ghosts}
 use Rattle.reg_keys.specs.declared.event.EventName.{EventName}
 use Rattle.turn_cell.specs.Calls.{view_of}
+use Rattle.ready_queue.specs.Calls as Queue
 use Rattle.event_mgr.specs.Manager.{MgrView, mgr_view}
 use Rattle.timeout_mgr.specs.Calls as TimeCalls
 use Rattle.poller.specs.Faults.{PollerFaults}
@@ -34,16 +35,22 @@ use Rattle.warp_runner.specs.Acts.{AreOfCells, HaveGrown}
 use Rattle.warp_runner.specs.Journal.{FitsUntil}
 use Rattle.warp_core.specs.declared.row.Row.{Row}
 use Rattle.warp_core.specs.declared.row.Halted.{Halted}
-use Rattle.warp_core.specs.Rows.{HasGoneOn, IsRowOf, HaltsBy, Serves, known_by, passes_of, stop_in, told_by}
+use Rattle.warp_core.specs.Rows.{HasGoneOn, IsRowOf, HaltsBy, Serves, known_by, stop_in, told_by}
 use Rattle.warp_core.proofs.Halting.{halts_on}
 
 module _ {L : Type 0} where
   pub pass_same : (v : PassView L) → HasPassGrown v v
-  pass_same v = record { mgr = all_grown_same v.mgr; cache = grown_same v.cache; tally = grown_same v.tally }
+  pass_same v = record {
+    mgr = all_grown_same v.mgr;
+    queue = grown_same v.queue;
+    cache = grown_same v.cache;
+    tally = grown_same v.tally;
+  }
 
   pub pass_then : (u v w : PassView L) → HasPassGrown u v → HasPassGrown v w → HasPassGrown u w
   pass_then u v w a b = record {
     mgr = all_grown_then u.mgr v.mgr w.mgr a.mgr b.mgr;
+    queue = grown_then u.queue v.queue w.queue a.queue b.queue;
     cache = grown_then u.cache v.cache w.cache a.cache b.cache;
     tally = grown_then u.tally v.tally w.tally a.tally b.tally;
   }
@@ -100,11 +107,25 @@ module _ {P F C B G L I X : Type 0} {H : Ghosts F X} where
 
   -- a dispatcher went on where its passes have grown
   pub goes_by : (x y : Row P F C B G L I X H) → AllGrown (mgr_view x.disp.mgr) (mgr_view y.disp.mgr)
+      → HasGrown (Queue.view_of x.disp.queue) (Queue.view_of y.disp.queue)
       → HaveGrown (view_of x.runner.cached) (view_of y.runner.cached)
       (view_of x.runner.tallied) (view_of y.runner.tallied)
       → y.runner.limit ≡ x.runner.limit → HasGoneOn x y
-  goes_by x y mgr cells limit =
-      record { passes = record { mgr = mgr; cache = cells.cached; tally = cells.tallied }; limit = limit }
+  goes_by x y mgr queue cells limit = record {
+    passes = record { mgr = mgr; queue = queue; cache = cells.cached; tally = cells.tallied };
+    limit = limit;
+  }
+
+  -- and where no event was put into the queue or taken from it
+  pub goes_aside : (x y : Row P F C B G L I X H) → AllGrown (mgr_view x.disp.mgr) (mgr_view y.disp.mgr)
+      → y.disp.queue ≡ x.disp.queue
+      → HaveGrown (view_of x.runner.cached) (view_of y.runner.cached)
+      (view_of x.runner.tallied) (view_of y.runner.tallied)
+      → y.runner.limit ≡ x.runner.limit → HasGoneOn x y
+  goes_aside x y mgr queue cells limit =
+      goes_by x y mgr
+      (subst (λ q. HasGrown (Queue.view_of x.disp.queue) (Queue.view_of q)) (sym queue)
+      (grown_same (Queue.view_of x.disp.queue))) cells limit
 
 module _ {P F C B G L I X : Type 0} {H : Ghosts F X} (told : B → BookTold) (faults : P → PollerFaults)
     (s : Shared (Job P F L I X) F X H) where

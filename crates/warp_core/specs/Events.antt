@@ -6,14 +6,13 @@ use Rattle.reg_keys.specs.declared.event.EventName.{EventName}
 use Rattle.reg_keys.specs.Histories.{EventOut, events_out}
 use Rattle.reg_keys.specs.Tests.{one_if, same_event, IsIn}
 use Rattle.turn_cell.specs.Weights.{weigh}
-use Rattle.turn_cell.specs.View.{own_entries}
-use Rattle.ready_queue.specs.Weights.{weigh_put, weigh_taken}
+use Rattle.ready_queue.specs.History.{held_after}
 use Rattle.event_mgr.specs.Manager.{seen_in}
 use Rattle.event_mgr.specs.Stripes.{past_in}
 use Rattle.dispatcher.specs.Entries.{named_by, dispatched_by}
 use Rattle.dispatcher.specs.Stripes.{weigh_shown}
 use Rattle.dispatcher.specs.Books.{Book, got, placed}
-use Rattle.warp_passes.specs.Passes.{PassView}
+use Rattle.warp_passes.specs.Passes.{PassView, IsQueuePast}
 
 module _ {L : Type 0} where
   -- the book of a dispatcher between two turns, by what its passes know and the events in its hand
@@ -39,28 +38,25 @@ module _ {A L : Type 0} (known : A → PassView L) where
   abbrev pub all_dispatched : (EventName → ℕ) → List A → ℕ
   all_dispatched weight xs = weigh (λ x. weigh_shown dispatched_by weight (known x).mgr) xs
 
-  -- those that all of them put into the queue
-  abbrev pub all_put : (EventName → ℕ) → List A → ℕ
-  all_put weight xs = weigh (λ x. weigh_put weight (own_entries (known x).queue)) xs
-
-  -- those that all of them took from it
-  abbrev pub all_taken : (EventName → ℕ) → List A → ℕ
-  all_taken weight xs = weigh (λ x. weigh_taken weight (own_entries (known x).queue)) xs
+  -- those that lie in the queue, by what one of them has seen of its history
+  abbrev pub queued : (EventName → ℕ) → A → ℕ
+  queued weight x = weigh weight (held_after (known x).queue.seen)
 
   -- those in all hands
   abbrev pub all_in_hand : (EventName → ℕ) → List A → ℕ
   all_in_hand weight xs = weigh (λ x. weigh weight (known x).hand) xs
 
-  -- An event is named once at most, and one that is out in a stripe's history was. What was named and what was
-  -- taken from the queue is what was put into it, what was dispatched and what is in a hand. So of an event that
-  -- is out, how often it was put and not taken, was dispatched, and is in a hand comes to one
+  -- An event is named once at most, and one that is out in a stripe's history was. Each that was named is in one
+  -- place: by the queue's one history, whose moves were allowed, it lies in the queue, or it was dispatched, or it
+  -- is in a hand. So of an event that is out, how often it is in any of these comes to one
   pub record ArePlaced (x : A) (xs : List A) : Type 0 where
     pub once : (e : EventName) → all_named (is_event e) (x ∷ xs) ≤ 1
     pub out : (s : ℕ) → s < 32 → (o : EventOut) → IsIn o (events_out s 1 (past_in (seen_in s (known x).mgr)))
         → all_named (is_event o.event) (x ∷ xs) ≡ 1
+    pub allowed : IsQueuePast (known x).queue
     pub places : (weight : EventName → ℕ)
-        → all_named weight (x ∷ xs) + all_taken weight (x ∷ xs)
-        ≡ all_put weight (x ∷ xs) + all_dispatched weight (x ∷ xs) + all_in_hand weight (x ∷ xs)
+        → all_named weight (x ∷ xs)
+        ≡ queued weight x + all_dispatched weight (x ∷ xs) + all_in_hand weight (x ∷ xs)
 
   -- the same of a list of them, the first of which has seen all histories, like each of them
   abbrev pub KeepAllEvents : List A → Type 0

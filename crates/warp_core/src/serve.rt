@@ -21,6 +21,7 @@ use crate::turns::{halt, serve_row};
 use fd_cache::Lease;
 use outside::{Clock, Files};
 use poller::Poller;
+use ready_queue::histories_are_first_in_first_out;
 use reg_keys::legal_stripes_happen_once;
 use std::alloc::{AllocError, Global};
 use std::sync::{Arc, Wait};
@@ -80,6 +81,7 @@ where
     moved_passes_hold_the_seats::<ServePass<Job<P, F>, F>, Row<P, F, C, B, G>, Lease<F>>();
     level_passes_add_up::<ServePass<Job<P, F>, F>, Lease<F>>();
     legal_stripes_happen_once();
+    histories_are_first_in_first_out();
     let count = kits.len();
     let parts = Parts::with_capacity(alloc, count)?;
     let (shared, passes) = shared_among(alloc, count)?;

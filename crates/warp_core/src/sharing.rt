@@ -6,7 +6,7 @@ use outside::{Clock, Files};
 use poller::Poller;
 use warp_books::{Book, Finished};
 use warp_jobs::{Gate, Job};
-use warp_passes::{ShareRow, Shared};
+use warp_passes::{ShareRow, Shared, tell_queue};
 
 impl<P: Poller, F: Files, C: Clock, B: Book<Finished<P::Link, F>>, G: Gate> ShareRow
     for Row<P, F, C, B, G> {
@@ -27,6 +27,7 @@ impl<P: Poller, F: Files, C: Clock, B: Book<Finished<P::Link, F>>, G: Gate> Shar
         to: &mut Row<P, F, C, B, G>,
     ) {
         Share::share(&of.mgr, &mut from.disp.mgr, &mut to.disp.mgr);
+        tell_queue(&of.queue, &mut from.disp.queue, &mut to.disp.queue);
         Share::share(&of.cache, &mut from.runner.cached, &mut to.runner.cached);
         Share::share(&of.tally, &mut from.runner.tallied, &mut to.runner.tallied);
     }

@@ -12,12 +12,22 @@ use Rattle.warp_passes.specs.Levels.{HasPassGrown}
 
 module _ {L : Type 0} where
   pass_same : (v : PassView L) → HasPassGrown v v
-  pass_same v = record { mgr = all_grown_same v.mgr; cache = grown_same v.cache; tally = grown_same v.tally }
+  pass_same v = record {
+    mgr = all_grown_same v.mgr;
+    queue = grown_same v.queue;
+    cache = grown_same v.cache;
+    tally = grown_same v.tally;
+  }
 
   -- by calls on the tally
   pub tally_grew : (v : PassView L) (t : View TallyEntry) → HasGrown v.tally t
       → HasPassGrown v (record v { tally = t })
-  tally_grew v t grown = record { mgr = all_grown_same v.mgr; cache = grown_same v.cache; tally = grown }
+  tally_grew v t grown = record {
+    mgr = all_grown_same v.mgr;
+    queue = grown_same v.queue;
+    cache = grown_same v.cache;
+    tally = grown;
+  }
 
   -- one pass of several grew
   pub one_grew : {A : Type 0} (known : A → PassView L) (ps : List A) (i : ℕ) (p q : A)

@@ -17,7 +17,7 @@ use Rattle.warp_tally.specs.declared.calls.TallyEntry.{TallyEntry}
 use Rattle.warp_tally.specs.Tallies.{tally_past}
 use Rattle.warp_passes.specs.Own.{entries_of}
 use Rattle.warp_passes.specs.Passes.{PassView, IsLawfulPass}
-use Rattle.warp_passes.specs.Cells.{AtMgr, AtCache, AtTally, CameLevel}
+use Rattle.warp_passes.specs.Cells.{AtMgr, AtQueue, AtCache, AtTally, CameLevel}
 use Rattle.warp_passes.specs.Levels.{ArePassesLevel, PassesAddUp}
 
 module _ {A : Type 0} where
@@ -31,15 +31,21 @@ module _ {A : Type 0} where
 
 module _ {A E : Type 0} (view : A → View E) where
   -- what was made with level passes weighs together what the history weighs that the first has seen
+  sums_up : (f : ℕ × E → ℕ) (x : A) (xs : List A) → IsLevel (map view (x ∷ xs))
+      → weigh (λ y. weigh f (own_entries (view y))) (x ∷ xs) ≡ weigh f (view x).seen
+  sums_up f x xs l =
+      sym (weigh_map view (λ v. weigh f (own_entries v)) (x ∷ xs))
+      ∙ (l.sums f
+      ∙ ap (weigh f) (sym (All-head (λ (v : View E). v.seen ≡ l.log) (view x) (map view xs) l.saw)))
+
+  -- and so by weights of entries without their seats
   adds_up : (f : E → ℕ) (x : A) (xs : List A) → (l : IsLevel (map view (x ∷ xs)))
       → weigh (λ y. weigh f (entries_of (view y))) (x ∷ xs) ≡ weigh (λ e. f e.1) (view x).seen
   adds_up f x xs l =
       let g : ℕ × E → ℕ = λ e. f e.1 in
       weigh_same (λ y. weigh f (entries_of (view y))) (λ y. weigh g (own_entries (view y))) (x ∷ xs)
       (λ y. weigh_map (λ (e : ℕ × E). e.1) f (own_entries (view y)))
-      ∙ (sym (weigh_map view (λ v. weigh g (own_entries v)) (x ∷ xs))
-      ∙ (l.sums g
-      ∙ ap (weigh g) (sym (All-head (λ (v : View E). v.seen ≡ l.log) (view x) (map view xs) l.saw))))
+      ∙ sums_up g x xs l
 
 -- the newest first, or the oldest first
 past_weighs : {D : Type 0} (f : D → ℕ) (h : List (ℕ × D)) → weigh f (past_of h) ≡ weigh (λ e. f e.1) h
@@ -52,6 +58,7 @@ module _ {A L : Type 0} (known : A → PassView L) where
       stripes = λ s low. (b (AtMgr (AtStripe s low))).level;
       numbers = (b (AtMgr AtNumbers)).level;
     };
+    queue = (b AtQueue).level;
     cache = (b AtCache).level;
     tally = (b AtTally).level;
   }
@@ -69,6 +76,8 @@ module _ {A L : Type 0} (known : A → PassView L) where
       let first = All-head (λ y. IsLawfulPass (known y)) x xs lawful in
       record {
         mgr = mgr;
+        allowed = first.queue;
+        moved = λ f. sums_up (λ y. (known y).queue) f x xs level.queue;
         legal = first.cache;
         cached =
             λ f. adds_up (λ y. (known y).cache) f x xs level.cache ∙ sym (past_weighs f (known x).cache.seen);

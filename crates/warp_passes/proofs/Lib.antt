@@ -1,7 +1,6 @@
 mod Added
 mod TallyEntries
 mod CacheDeeds
-mod Seen
 mod SameOwn
 mod LevelSums
 mod RowRest

@@ -11,7 +11,7 @@ use Rattle.event_mgr.specs.Manager as Manager
 use Rattle.event_mgr.specs.Level.{MgrCell}
 use Rattle.event_mgr.specs.Level as Mgr
 use Rattle.warp_passes.specs.Passes.{PassView, IsLawfulPass, IsFirst, IsPassSplit}
-use Rattle.warp_passes.specs.Cells.{ServeCell, AtMgr, AtCache, AtTally, known_at}
+use Rattle.warp_passes.specs.Cells.{ServeCell, AtMgr, AtQueue, AtCache, AtTally, known_at}
 use Rattle.warp_passes.specs.Levels.{IsNew}
 
 module _ {E : Type 0} where
@@ -56,12 +56,14 @@ module _ {L : Type 0} where
   pub first_known : MgrFirst → (v : PassView L) → IsFirst v → (k : ServeCell)
       → (name : List ℕ) × (known_at k v ≡ first_view name)
   first_known law v f (AtMgr k) = law v.mgr f.mgr k
+  first_known law v f AtQueue = (8192 ∷ [], f.queue)
   first_known law v f AtCache = ([], f.cache)
   first_known law v f AtTally = ([], f.tally)
 
   pub split_known : MgrSplit → (v w o : PassView L) → IsLawfulPass v → IsPassSplit v w o → (k : ServeCell)
       → IsSplit (known_at k v) (known_at k w) (known_at k o)
   split_known law v w o l s (AtMgr k) = law v.mgr w.mgr o.mgr l.mgr s.mgr k
+  split_known law v w o l s AtQueue = s.queue
   split_known law v w o l s AtCache = s.cache
   split_known law v w o l s AtTally = s.tally
 

@@ -16,8 +16,8 @@ use Rattle.event_mgr.specs.Level.{AtStripe, AtNumbers}
 use Rattle.timeout_mgr.specs.Passes as Times
 use Rattle.dispatcher.specs.Stripes.{Each, HasGrown}
 use Rattle.warp_passes.specs.Passes.{PassView, IsLawfulPass}
-use Rattle.warp_passes.specs.Cells.{ServeCell, AtMgr, AtCache, AtTally, entry_at, known_at, SeatsAreOnce}
-use Rattle.warp_passes.specs.Cells.{OwnIsKept}
+use Rattle.warp_passes.specs.Cells.{ServeCell, AtMgr, AtQueue, AtCache, AtTally, entry_at, known_at}
+use Rattle.warp_passes.specs.Cells.{SeatsAreOnce, OwnIsKept}
 use Rattle.warp_passes.specs.Levels.{IsNew, DidNothing, OwnsTheSame, HasPassGrown}
 
 -- rows of views that weigh the same place by place
@@ -56,6 +56,7 @@ module _ {L : Type 0} where
         (λ s lt. ap (weigh (λ (e : ℕ × Entry). f e.1))
         (same (AtMgr (AtStripe s (subst (λ (n : ℕ). s < n) l.mgr.many lt)))));
     draws = λ f. ap (weigh (λ e. f e.1)) (same (AtMgr AtNumbers));
+    moved = same AtQueue;
     cached = ap (map (λ e. e.1)) (same AtCache);
     tallied = ap (map (λ e. e.1)) (same AtTally);
   }
@@ -66,6 +67,7 @@ module _ {L : Type 0} where
         (let k = AtMgr (AtStripe s (subst (λ (n : ℕ). s < n) l.mgr.many lt)) in
         ap (weigh (λ (e : ℕ × Entry). f e.1)) (none k)));
     draws = λ f. ap (weigh (λ e. f e.1)) (none (AtMgr AtNumbers));
+    moved = none AtQueue;
     cached = ap (map (λ e. e.1)) (none AtCache);
     tallied = ap (map (λ e. e.1)) (none AtTally);
     timed = ap Times.calls_of new.times;
@@ -125,6 +127,7 @@ module _ {A L : Type 0} (known : A → PassView L) where
       → (known_at k w).classes ≡ (known_at k v).classes
   grown_classes v w g (AtMgr (AtStripe s low)) = stripe_classes v.mgr.stripes w.mgr.stripes g.mgr.stripes s
   grown_classes v w g (AtMgr AtNumbers) = g.mgr.numbers.classes
+  grown_classes v w g AtQueue = g.queue.classes
   grown_classes v w g AtCache = g.cache.classes
   grown_classes v w g AtTally = g.tally.classes
 

@@ -1,5 +1,5 @@
 -- To be believed: the cells that a pass of each shared thing holds a pass of, so that passes can be brought
--- level.
+-- level. The queue is one of them: it is no turn cell, but its passes are split and joined as those of one are.
 use Rattle.std.specs.Prelude.{List, map}
 use Rattle.outside.specs.declared.files.Files.{Ghosts}
 use Rattle.turn_cell.specs.declared.view.View.{View}
@@ -7,6 +7,7 @@ use Rattle.level.specs.Leveling.{HasShared, HoldsEachOnce, KeepsOwn, BroughtLeve
 use Rattle.level.specs.Meanings.{PassMeaning}
 use Rattle.event_mgr.specs.Level.{MgrCell}
 use Rattle.event_mgr.specs.Level as Mgr
+use Rattle.ready_queue.specs.declared.rule.Move.{Move}
 use Rattle.fd_cache.specs.declared.deed.CacheDeed.{CacheDeed}
 use Rattle.warp_tally.specs.declared.calls.TallyEntry.{TallyEntry}
 use Rattle.warp_passes.specs.Passes.{PassView, PassRest, AreOf, pass_view, rest_of}
@@ -14,16 +15,18 @@ use Rattle.warp_passes.specs.Rows.{RowMeaning}
 use Rattle.warp_passes.specs.declared.shared.Shared.{Shared}
 use Rattle.warp_passes.specs.declared.shared.ServePass.{ServePass}
 
--- the cells: those of the manager, which are one for each stripe and that of the numbers, that of the cache,
--- and that of the tally. The queue and the timeouts are no turn cells
+-- the cells: those of the manager, which are one for each stripe and that of the numbers, the queue, the cell
+-- of the cache, and that of the tally. The timeouts are none
 pub data ServeCell : Type 0 where
   AtMgr : MgrCell → ServeCell
+  AtQueue : ServeCell
   AtCache : ServeCell
   AtTally : ServeCell
 
 -- what an entry is in the history of each
 abbrev pub entry_at : Type 0 → ServeCell → Type 0
 entry_at L (AtMgr k) = Mgr.entry_at k
+entry_at L AtQueue = Move
 entry_at L AtCache = CacheDeed L
 entry_at L AtTally = TallyEntry
 
@@ -31,6 +34,7 @@ module _ {L : Type 0} where
   -- what a pass knows of each
   abbrev pub known_at : (k : ServeCell) → PassView L → View (entry_at L k)
   known_at (AtMgr k) v = Mgr.known_at k v.mgr
+  known_at AtQueue v = v.queue
   known_at AtCache v = v.cache
   known_at AtTally v = v.tally
 

@@ -5,3 +5,4 @@ pub mod Passes
 pub mod Cells
 pub mod Levels
 pub mod Rows
+pub mod Laws

@@ -1,12 +1,13 @@
 -- To be believed: what a pass of each shared thing knows, what it says to be a pass of them, to be new, and
 -- to be split.
-use Rattle.std.specs.Prelude.{◌≡◌, List, [], ◌∷◌}
+use Rattle.std.specs.Prelude.{◌≡◌, ℕ, List, [], ◌∷◌}
 use Rattle.outside.specs.declared.files.Files.{Ghosts}
 use Rattle.reg_keys.specs.declared.event.EventName.{EventName}
 use Rattle.turn_cell.specs.declared.view.View.{View}
 use Rattle.turn_cell.specs.View.{first_view}
 use Rattle.turn_cell.specs.Calls.{view_of, IsSplit}
 use Rattle.ready_queue.specs.declared.rule.Move.{Move}
+use Rattle.ready_queue.specs.History.{IsQueueHistory}
 use Rattle.ready_queue.specs.Calls as Queue
 use Rattle.timeout_mgr.specs.declared.view.TimeView.{TimeView}
 use Rattle.timeout_mgr.specs.Passes as Times
@@ -34,20 +35,26 @@ pub record PassView (L : Type 0) : Type 0 where
   pub cache : View (CacheDeed L)
   pub tally : View TallyEntry
 
--- what of it is of no turn cell: the passes of the queue and of the timeouts, and the hand
+-- what of it isn't levelled: the hand, and what the pass of the timeouts knows
 pub record PassRest : Type 0 where
-  pub queue : View Move
   pub hand : List EventName
   pub times : TimeView
 
-module _ {L : Type 0} where
-  -- what of a pass is of no turn cell
-  abbrev pub rest_of : PassView L → PassRest
-  rest_of v = record { queue = v.queue; hand = v.hand; times = v.times }
+-- what was seen of the queue is a history of one of the capacity that the pass knows: a put finds room, and
+-- what is taken is the first that is held
+abbrev pub IsQueuePast : View Move → Type 0
+IsQueuePast v = (capacity : ℕ) × (v.name ≡ capacity ∷ []) × IsQueueHistory capacity v.seen
 
-  -- what was seen of each cell's history is right: each reply is the one that its call must have
+module _ {L : Type 0} where
+  -- what of a pass isn't levelled
+  abbrev pub rest_of : PassView L → PassRest
+  rest_of v = record { hand = v.hand; times = v.times }
+
+  -- what was seen of each history is right: each move of the queue was allowed where it was made, and of each
+  -- cell each reply is the one that its call must have
   pub record IsLawfulPass (v : PassView L) : Type 0 where
     pub mgr : IsLawful v.mgr
+    pub queue : IsQueuePast v.queue
     pub cache : IsCacheHistory (past_of v.cache.seen)
     pub tally : IsTallyPast (tally_past v.tally.seen)
 
@@ -94,4 +101,9 @@ module _ {J F X : Type 0} {G : Ghosts F X} where
 
   -- so what a pass of them has seen is lawful
   abbrev pub lawful_of : (s : Shared J F X G) (p : ServePass J F X G) → AreOf s p → IsLawfulPass (pass_view p)
-  lawful_of s p o = record { mgr = o.disp.0.lawful; cache = o.cache.legal; tally = o.tally.right }
+  lawful_of s p o = record {
+    mgr = o.disp.0.lawful;
+    queue = (Queue.capacity_of s.queue, o.disp.1.1, o.disp.1.2);
+    cache = o.cache.legal;
+    tally = o.tally.right;
+  }

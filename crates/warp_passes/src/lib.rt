@@ -11,6 +11,7 @@ mod cache;
 mod tally;
 
 // What is shared, and a pass of each thing.
+mod queue;
 mod shared;
 
 // Passes that are brought level, also where they lie in rows.
@@ -29,6 +30,7 @@ pub use laws::{
     moved_passes_hold_the_seats, new_passes_did_nothing,
 };
 pub use making::shared_among;
+pub use queue::tell_queue;
 pub use rows::{ShareRow, bring_rows_level};
 pub use shared::{ServePass, Shared};
 pub use tally::{TallyOut, TallyPass, accept, finish, look, stop, turn_away};

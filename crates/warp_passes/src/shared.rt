@@ -1,6 +1,7 @@
 //! What all dispatchers share, and a pass of each thing of it.
 ghost use Rattle.std.specs.Prelude.{◌≡◌, IfOk, IfErr};
 
+use crate::queue::tell_queue;
 use dispatcher::{DispPass, Hand};
 use event_mgr::EventManager;
 use fd_cache::{Cache, CacheDeed, Lease};
@@ -117,7 +118,7 @@ impl<J: Load, F: Files> Shared<J, F> {
     }
 
     /// Tells `to` what `from` has seen of each cell. It takes no memory, waits for no turn and makes no call.
-    /// The passes of the queue and of the timeouts are no cells' and are left alone, and so are the hands.
+    /// The passes of the timeouts are left alone, and so are the hands.
     pub(crate) fn tell(&self, from: &mut ServePass<J, F>, to: &mut ServePass<J, F>)
         requires from { AreOf self.now from.old }
         requires to { AreOf self.now to.old }
@@ -131,6 +132,7 @@ impl<J: Load, F: Files> Shared<J, F> {
         let disp = &mut from.disp;
         let other = &mut to.disp;
         Share::share(&self.mgr, &mut disp.mgr, &mut other.mgr);
+        tell_queue(&self.queue, &mut disp.queue, &mut other.queue);
         Share::share(&self.cache, &mut from.cache, &mut to.cache);
         Share::share(&self.tally, &mut from.tally, &mut to.tally);
     }

@@ -4,6 +4,7 @@ pub mod Causes
 pub mod Deeds
 pub mod Journal
 pub mod JournalLaws
+pub mod Leases
 pub mod Runs
 pub mod Sweeps
 pub mod StoppingLaws

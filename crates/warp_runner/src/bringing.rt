@@ -7,8 +7,10 @@ ghost use Rattle.conn_loop.specs.Supplies.{Supplies};
 ghost use Rattle.dispatcher.specs.Runs.{LeavesPolls};
 ghost use Rattle.dispatcher.specs.Stripes.{HasGrown};
 ghost use Rattle.warp_runner.specs.Acts.{AreOfCells, HaveGrown};
+ghost use Rattle.warp_runner.specs.Leases.{HasGivenBack, way_of};
 ghost use Rattle.warp_runner.specs.Runs.{HasBrought};
 ghost use Rattle.warp_runner.specs.declared.bringing.Brought.TheVariants.{Spent};
+ghost use Rattle.fd_cache.specs.declared.acquired.ReleaseOut.TheVariants.{Released};
 
 use crate::runner::ServerRunner;
 use conn_loop::{End, Supply};
@@ -91,6 +93,8 @@ impl<P: Poller, F: Files, C: Clock, B: Book<Finished<P::Link, F>>, G: Gate> Serv
             (arc_value self.new.shared).cache self.new.cached
             (arc_value self.new.shared).tally self.new.tallied }
         ensures brought { (result ≡ brought) ⊎ (result ≡ Spent) }
+        ensures gave { HasGivenBack lease Released (view_of self.old.cached) (view_of self.new.cached)
+            ⊎ (result ≡ Spent) }
         ensures same { (self.new.shared ≡ self.old.shared) × (self.new.limit ≡ self.old.limit) }
         ensures grown { HasGrown (view_of self.old.cached) (view_of self.new.cached) }
         ensures rest { (self.new.timed ≡ self.old.timed) × (self.new.tallied ≡ self.old.tallied)
@@ -147,6 +151,8 @@ impl<P: Poller, F: Files, C: Clock, B: Book<Finished<P::Link, F>>, G: Gate> Serv
             × LeavesPolls P.meaning self.old.poller self.new.poller }
         ensures rest { (self.new.timed ≡ self.old.timed) × (self.new.tallied ≡ self.old.tallied)
             × (self.new.poller ≡ self.old.poller) × (self.new.book ≡ self.old.book) }
+        ensures gave { HasGivenBack lease (way_of result) (view_of self.old.cached)
+            (view_of self.new.cached) }
     {
         let Some(lease) = lease else {
             return Ok(());

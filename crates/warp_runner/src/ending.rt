@@ -13,6 +13,7 @@ ghost use Rattle.warp_books.specs.Truth.{IsGivenUp};
 ghost use Rattle.warp_jobs.specs.Sessions.{MayFinish, finished_as};
 ghost use Rattle.warp_runner.specs.Acts.{Acts, AreOfCells, Did, HaveGrown, told_of};
 ghost use Rattle.warp_runner.specs.Deeds.{AreCancels, IsEnding, IsEndingBare, IsHanding, IsParting, finished_held, unserved};
+ghost use Rattle.warp_runner.specs.Leases.{GaveBackWhatItHeld};
 
 use crate::calls::close;
 use crate::codes::SPENT;
@@ -93,6 +94,8 @@ impl<P: Poller, F: Files, C: Clock, B: Book<Finished<P::Link, F>>, G: Gate> Serv
             → Did (told_of v (view_of self.old.tallied) (seen_of self.old.timed) (B.told self.old.book)) acts
             [] (told_of v (view_of self.new.tallied) (seen_of self.new.timed) (B.told self.new.book)))
             × IsParting session.watch (finished_held session end) acts result }
+        ensures gave { GaveBackWhatItHeld session.conn result (view_of self.old.cached)
+            (view_of self.new.cached) }
         ensures same { (self.new.shared ≡ self.old.shared) × (self.new.limit ≡ self.old.limit) }
         ensures stays { HaveGrown (view_of self.old.cached) (view_of self.new.cached)
             (view_of self.old.tallied) (view_of self.new.tallied)
@@ -165,6 +168,7 @@ impl<P: Poller, F: Files, C: Clock, B: Book<Finished<P::Link, F>>, G: Gate> Serv
             [] (told_of v (view_of self.new.tallied) (seen_of self.new.timed) (B.told self.new.book)))
             × IsHanding (finished_as done.opening
             (P.Link.told done.link) done.moments.items done.bytes done.waits done.end) acts result }
+        ensures cached { self.new.cached ≡ self.old.cached }
         ensures same { (self.new.shared ≡ self.old.shared) × (self.new.limit ≡ self.old.limit) }
         ensures stays { HaveGrown (view_of self.old.cached) (view_of self.new.cached)
             (view_of self.old.tallied) (view_of self.new.tallied)

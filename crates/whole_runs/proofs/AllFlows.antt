@@ -7,13 +7,13 @@ use Rattle.std.proofs.lemmas.List.{map-append}
 use Rattle.std.proofs.lemmas.List.Elements.{All-cons, All-nil}
 use Rattle.reg_keys.specs.declared.opening.Opening.{Opening}
 use Rattle.reg_keys.specs.declared.entry.Entry.{Entry}
-use Rattle.reg_keys.specs.Tests.{one_if, total}
+use Rattle.reg_keys.specs.Tests.{one_if, same, total}
 use Rattle.reg_keys.specs.AllStripes.{sum_below}
 use Rattle.turn_cell.specs.Weights.{weigh}
 use Rattle.conn_loop.specs.declared.step.End.TheVariants as Ends
 use Rattle.event_mgr.specs.Manager.{own_weight}
 use Rattle.warp_tally.specs.declared.calls.TallyEntry.{TallyEntry}
-use Rattle.warp_tally.specs.Accounts.{finished_by, finished_in, finishes_any, turns_away}
+use Rattle.warp_tally.specs.Accounts.{finished_by, finished_in, finishes, finishes_any, times, turns_away}
 use Rattle.warp_books.specs.declared.finish.Finish.{Finish}
 use Rattle.warp_books.specs.declared.finish.Finish.TheVariants.{Ended, TimedOut, TurnedAway}
 use Rattle.warp_books.specs.declared.finish.Turned.TheVariants as Turns
@@ -27,7 +27,7 @@ use Rattle.whole_runs.specs.Registrations.{CountsFor, MayLackOne, registers, tak
 use Rattle.whole_runs.proofs.Flows.{AllCount, AreExplainedBy, Handed, accepted, accepts_of, ended, is_handed}
 use Rattle.whole_runs.proofs.Flows.{opens_of}
 use Rattle.whole_runs.specs.Accounts.{AreTaken, IsAllClean, IsUncapped, TookWhatCounted, all_kinds, own_ends}
-use Rattle.whole_runs.specs.Accounts.{whole}
+use Rattle.whole_runs.specs.Accounts.{openings_in, whole}
 use Rattle.whole_runs.proofs.Chains.{sum_both, sum_none}
 use Rattle.whole_runs.proofs.Flowing.{count_append, total_append}
 use Rattle.whole_runs.proofs.PassFlows.{PassFlows, pass_flows}
@@ -88,6 +88,27 @@ finished_length (e ∷ es) =
 map_length : {A B : Type 0} (f : A → B) (xs : List A) → length (map f xs) ≡ length xs
 map_length f [] = refl
 map_length f (x ∷ xs) = ap suc (map_length f xs)
+
+-- how often an opening is among those that some entries finished
+finished_times : (o : Opening) (es : List TallyEntry) → times o (finished_in es) ≡ weigh (finishes o) es
+finished_times o [] = refl
+finished_times o (e ∷ es) =
+    let r = finished_times o es in
+    let a = total_append (λ (p : Opening). one_if (same o p)) (finished_by e.call e.reply.counted)
+    (finished_in es) in omega arith
+
+one_if_le : (t : Bool) → one_if t ≤ 1
+one_if_le true = omega arith
+one_if_le false = omega arith
+
+ones_le : (f : FinishedTold → Bool) (ds : List FinishedTold) → total (λ (d : FinishedTold). one_if (f d)) ds ≤ length ds
+ones_le f [] = omega arith
+ones_le f (d ∷ ds) =
+    let r = ones_le f ds in
+    let a = one_if_le (f d) in omega arith
+
+uncapped_few : (n m l : ℕ) → m ≡ capped n → n ≤ l → l < 2 ^ 64 → m ≡ n
+uncapped_few n m l e le lt = omega arith
 
 uncapped : (n m : ℕ) → m ≡ capped n → m < 2 ^ 64 - 1 → n ≡ m
 uncapped n m e lt = omega arith
@@ -220,7 +241,7 @@ told_in hs = map (λ (h : Handed). h.0) hs
 
 -- what is known of all dispatchers: what each handed to its book, and that together they registered and
 -- handed over no more than the passes' own entries let them
-pub record AllFlows {A L : Type 0} (known : A → PassView L) (xs : List A)
+pub record AllFlows {A L : Type 0} (known : A → PassView L) (limit : ℕ) (xs : List A)
     (books : List BookTold) : Type 1 where
   pub handed : List Handed
   pub count : AllCount handed
@@ -243,7 +264,12 @@ pub record AllFlows {A L : Type 0} (known : A → PassView L) (xs : List A)
   pub clean : All IsAllClean books → AllOf (λ (h : Handed). MayLackOne h.0.end → ⊥) handed
   pub kept : (P : FinishedTold → Type 0) → AllOf (λ (h : Handed). P h.0) handed
       → All (λ b. IfSome b.kept (λ ds. All P ds)) books
-  pub took : AreTaken known xs books
+  pub lists : List (List FinishedTold)
+  pub took : AreTaken known limit xs books lists
+  pub each : (o : Opening)
+      → total (λ (ds : List FinishedTold). times o (openings_in ds)) lists ≡ tally_weight known (finishes o) xs
+  pub kinds : length handed < 2 ^ 64
+      → total (λ (b : BookTold). total b.sums.ends all_kinds) books ≡ length handed
 
 module _ {A L : Type 0} (known : A → PassView L) where
   abbrev served : A → BookTold → ServeTold
@@ -255,12 +281,6 @@ module _ {A L : Type 0} (known : A → PassView L) where
   kept_by P None hs is all = tt
   kept_by P (Some ds) hs is all = subst (All P) (sym is) (all_of_map (λ (h : Handed). h.0) P hs all)
 
-  took_by : (kept : Option (List FinishedTold)) (hs : List Handed) (os : List Opening)
-      → IfSome kept (λ now. now ≡ told_in hs) → map (λ (d : FinishedTold). d.opening) (told_in hs) ≡ os
-      → IfSome kept (λ ds. map (λ d. d.opening) ds ≡ os)
-  took_by None hs os is same = tt
-  took_by (Some ds) hs os is same = ap (map (λ (d : FinishedTold). d.opening)) is ∙ same
-
   -- the counts of all kinds are as many as there are connections
   kinds_of : (b : BookTold) (ds : List FinishedTold) → IsBookOf ds b
       → ((k : Finish) → b.sums.ends k < 2 ^ 64 - 1) → (ks : List Finish)
@@ -271,6 +291,17 @@ module _ {A L : Type 0} (known : A → PassView L) where
       let r = kinds_of b ds of small ks in
       let u = uncapped (total (λ (d : FinishedTold). one_if (same_kind k d.end)) ds)
       (b.sums.ends k) (of.ends k) (small k) in
+      omega arith
+
+  -- the same where there are fewer connections than a number holds
+  kinds_few : (b : BookTold) (ds : List FinishedTold) → IsBookOf ds b → length ds < 2 ^ 64
+      → (ks : List Finish) → total b.sums.ends ks
+      ≡ total (λ (k : Finish). total (λ (d : FinishedTold). one_if (same_kind k d.end)) ds) ks
+  kinds_few b ds of few [] = refl
+  kinds_few b ds of few (k ∷ ks) =
+      let r = kinds_few b ds of few ks in
+      let u = uncapped_few (total (λ (d : FinishedTold). one_if (same_kind k d.end)) ds)
+      (b.sums.ends k) (length ds) (of.ends k) (ones_le (λ d. same_kind k d.end) ds) few in
       omega arith
 
   -- the ends of their own that a book counts
@@ -309,9 +340,13 @@ module _ {A L : Type 0} (known : A → PassView L) where
           → a + b + c + d + e ≤ t
       sums a b c d e ca cb cc cd ce ta tb tc td te t p q r s u v w x y z total_is = omega arith
 
-  took_all : (x : A) (b : BookTold) → (s : PassFlows (served x b)) → TookWhatCounted known x b
-  took_all x b s = record {
-    list = took_by b.kept s.handed (finished_in (entries_of (known x).tally)) s.book.kept s.finished;
+  took_all : (limit : ℕ) (x : A) (b : BookTold) → (s : PassFlows limit (served x b))
+      → TookWhatCounted known limit x b (told_in s.handed)
+  took_all limit x b s = record {
+    journal = s.journal;
+    deeds = s.told;
+    book = s.book;
+    each = s.finished;
     many = λ small.
         let u = kinds_of b (told_in s.handed) s.book small all_kinds in
         let v = kinds_each (told_in s.handed) in
@@ -333,7 +368,7 @@ module _ {A L : Type 0} (known : A → PassView L) where
       back (h ∷ hs) a = (a.0, back hs a.1)
 
   pub all_flows : (limit : ℕ) (xs : List A) (books : List BookTold) → AreExplainedBy known limit xs books
-      → AllFlows known xs books
+      → AllFlows known limit xs books
   all_flows limit [] [] explained = record {
     handed = [];
     count = tt;
@@ -348,7 +383,10 @@ module _ {A L : Type 0} (known : A → PassView L) where
     own = omega arith;
     clean = λ clean. tt;
     kept = λ P all. All-nil (λ (b : BookTold). IfSome b.kept (λ ds. All P ds));
+    lists = [];
     took = tt;
+    each = λ o. refl;
+    kinds = λ few. refl;
   }
   all_flows limit [] (b ∷ books) explained = absurd explained
   all_flows limit (x ∷ xs) [] explained = absurd explained
@@ -408,7 +446,20 @@ module _ {A L : Type 0} (known : A → PassView L) where
             (kept_by P b.kept s.handed s.book.kept
             (all_of_left (λ (h : Handed). P h.0) s.handed r.handed all))
             (r.kept P (all_of_right (λ (h : Handed). P h.0) s.handed r.handed all));
-        took = (took_all x b s, r.took);
+        lists = told_in s.handed ∷ r.lists;
+        took = (took_all limit x b s, r.took);
+        each =
+            λ o.
+            let u = ap (times o) s.finished in
+            let v = finished_times o (entries_of (known x).tally) in
+            let w = r.each o in omega arith;
+        kinds =
+            λ few.
+            let l = lengths s.handed r.handed in
+            let q = map_length (λ (h : Handed). h.0) s.handed in
+            let u = kinds_few b (told_in s.handed) s.book (omega arith) all_kinds in
+            let v = kinds_each (told_in s.handed) in
+            let w = r.kinds (omega arith) in omega arith;
       }
     where
       lengths : (xs ys : List Handed) → length (xs ++ ys) ≡ length xs + length ys

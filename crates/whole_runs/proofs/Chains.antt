@@ -1,6 +1,6 @@
 -- Numbers that fall from one to the next by at least what was finished at each.
 use Rattle.std.proofs.Common.{◌≡◌, ℕ, zero, suc, ◌+◌, ◌-◌, ◌≤◌, ◌<◌, ⊎_elim, List, [], ◌∷◌, length, true}
-use Rattle.std.proofs.Common.{false, Bool, sym, refl, ap, ◌∙◌, arith}
+use Rattle.std.proofs.Common.{false, sym, refl, ap, ◌∙◌, arith}
 use Rattle.std.specs.Prelude.{◌==◌, nat_lt, not}
 use Rattle.std.proofs.lemmas.Bool.{eqb-true, eqb-false, ltb-true, ltb-false, cases_Bool}
 use Rattle.reg_keys.specs.Tests.{one_if, total}

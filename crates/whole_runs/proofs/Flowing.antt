@@ -1,9 +1,8 @@
 -- Acts one after another, and how what there may still be done passes from one to the next.
-use Rattle.std.proofs.Common.{◌≡◌, ℕ, zero, suc, ◌+◌, ◌≤◌, List, [], ◌∷◌, ◌++◌, map, Bool, true, false, refl}
+use Rattle.std.proofs.Common.{◌≡◌, ℕ, zero, suc, ◌+◌, ◌≤◌, List, [], ◌∷◌, ◌++◌, map, Bool, refl}
 use Rattle.std.proofs.Common.{sym, ap, ◌∙◌, arith, append_assoc}
 use Rattle.std.proofs.lemmas.List.{map-append}
 use Rattle.reg_keys.specs.declared.opening.Opening.{Opening}
-use Rattle.reg_keys.specs.declared.entry.Entry.{Entry}
 use Rattle.reg_keys.specs.Tests.{total}
 use Rattle.turn_cell.specs.Weights.{weigh}
 use Rattle.turn_cell.specs.ListLaws.{weigh-append}

@@ -1,14 +1,13 @@
 -- What each act takes and gives of registrations that may still be made, and of connections
 -- that may still be handed over.
-use Rattle.std.specs.Prelude.{◌≡◌, ℕ, zero, suc, ◌+◌, ◌≤◌, ◌&&◌, ◌==◌, List, [], ◌∷◌, map, Bool, true, false}
+use Rattle.std.specs.Prelude.{◌≡◌, ℕ, zero, suc, ◌+◌, ◌≤◌, ◌&&◌, ◌==◌, List, [], ◌∷◌, map, Bool}
 use Rattle.reg_keys.specs.declared.opening.Opening.{Opening}
 use Rattle.reg_keys.specs.declared.entry.LoadKind.{LoadKind}
-use Rattle.reg_keys.specs.declared.entry.LoadKind.TheVariants.{Job, Flag}
+use Rattle.reg_keys.specs.declared.entry.LoadKind.TheVariants.{Job}
 use Rattle.reg_keys.specs.declared.entry.ShutKey.{ShutKey}
 use Rattle.reg_keys.specs.declared.entry.Entry.{Entry}
-use Rattle.reg_keys.specs.declared.entry.Entry.TheVariants.{Open, Register, Close}
+use Rattle.reg_keys.specs.declared.entry.Entry.TheVariants.{Open, Close}
 use Rattle.reg_keys.specs.declared.entry.OpenOutcome.TheVariants.{Opened}
-use Rattle.reg_keys.specs.declared.entry.RegisterOutcome.TheVariants.{Waits}
 use Rattle.reg_keys.specs.declared.entry.CloseOutcome.TheVariants.{Shut}
 use Rattle.reg_keys.specs.Tests.{one_if, total}
 use Rattle.reg_keys.specs.Accounts.{weight_accepted, weight_ended}

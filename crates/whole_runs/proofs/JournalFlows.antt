@@ -3,7 +3,6 @@ use Rattle.std.proofs.Common.{◌≡◌, ℕ, zero, suc, ◌+◌, ◌≤◌, Lis
 use Rattle.std.proofs.Common.{◌∙◌, subst, arith}
 use Rattle.std.specs.Prelude.{◌==◌, ◌&&◌, Option}
 use Rattle.reg_keys.specs.declared.opening.Opening.{Opening}
-use Rattle.reg_keys.specs.declared.entry.Entry.{Entry}
 use Rattle.reg_keys.specs.declared.entry.LoadKind.TheVariants as Kinds
 use Rattle.reg_keys.specs.Tests.{one_if, total}
 use Rattle.turn_cell.specs.Weights.{weigh}
@@ -13,8 +12,8 @@ use Rattle.warp_jobs.specs.Held.{Held}
 use Rattle.warp_jobs.specs.Tags.{serve_tag}
 use Rattle.warp_runner.specs.Acts.{Acts, nothing, then}
 use Rattle.warp_runner.specs.Journal.{AreDeeds, Deed, IsDeed, IsRun, all_of}
-use Rattle.whole_runs.proofs.Flows.{Credit, Flows, jobs_at, of_fired, of_job}
-use Rattle.whole_runs.proofs.Flowing.{JournalFits, flows_fit, flows_then, total_append}
+use Rattle.whole_runs.proofs.Flows.{Flows, jobs_at, of_fired, of_job}
+use Rattle.whole_runs.proofs.Flowing.{flows_fit, flows_then, total_append}
 use Rattle.whole_runs.proofs.Leaves.{by_acts, idle, job_next, job_none, none, one_job, unused, wasted}
 use Rattle.whole_runs.proofs.RunFlows.{connection_flows, of_held, sweeping_flows}
 use Rattle.whole_runs.proofs.ListenFlows.{listener_flows, note_flows, starting_flows}

@@ -1,6 +1,6 @@
 -- What single acts take and give.
-use Rattle.std.proofs.Common.{◌≡◌, ℕ, zero, suc, ◌+◌, ◌≤◌, List, [], ◌∷◌, ◌++◌, map, Bool, true, false}
-use Rattle.std.proofs.Common.{⊎_elim, inl, inr, refl, sym, ap, ◌∙◌, subst, arith}
+use Rattle.std.proofs.Common.{◌≡◌, ℕ, zero, suc, ◌+◌, ◌≤◌, List, [], ◌∷◌, map, Bool, true, false}
+use Rattle.std.proofs.Common.{⊎_elim, refl, sym, ap, ◌∙◌, subst, arith}
 use Rattle.std.specs.Prelude.{◌==◌, ◌&&◌, Option}
 use Rattle.std.proofs.lemmas.Bool.{eqb-true, eqb-false, eq-eqb, ne_eqb, cases_Bool}
 use Rattle.reg_keys.specs.declared.opening.Opening.{Opening}
@@ -9,18 +9,15 @@ use Rattle.reg_keys.specs.declared.registration.Key.{Key}
 use Rattle.reg_keys.specs.declared.registration.Dir.{Dir}
 use Rattle.reg_keys.specs.declared.entry.Entry.{Entry}
 use Rattle.reg_keys.specs.declared.entry.Entry.TheVariants as Entries
-use Rattle.reg_keys.specs.declared.entry.LoadKind.{LoadKind}
 use Rattle.reg_keys.specs.declared.entry.LoadKind.TheVariants as Kinds
 use Rattle.reg_keys.specs.declared.entry.OpenOutcome.TheVariants as Opens
 use Rattle.reg_keys.specs.declared.entry.RegisterOutcome.{RegisterOutcome}
 use Rattle.reg_keys.specs.declared.entry.RegisterOutcome.TheVariants as Registers
 use Rattle.reg_keys.specs.declared.entry.CloseOutcome.{CloseOutcome}
 use Rattle.reg_keys.specs.declared.entry.CloseOutcome.TheVariants as Closes
-use Rattle.reg_keys.specs.declared.entry.ShutKey.{ShutKey}
 use Rattle.reg_keys.specs.Tests.{one_if, total}
 use Rattle.turn_cell.specs.Weights.{weigh}
 use Rattle.timeout_mgr.specs.declared.view.TimeCall.{TimeCall}
-use Rattle.warp_tally.specs.declared.calls.TallyCall.{TallyCall}
 use Rattle.warp_tally.specs.declared.calls.TallyCall.TheVariants as Tallies
 use Rattle.warp_tally.specs.declared.calls.Counted.{Counted}
 use Rattle.warp_tally.specs.declared.calls.Counted.TheVariants as Counts
@@ -31,12 +28,12 @@ use Rattle.warp_books.specs.Books.{FinishedTold}
 use Rattle.warp_jobs.specs.Held.{Held}
 use Rattle.warp_jobs.specs.HeldListener.{HeldListener}
 use Rattle.warp_jobs.specs.Tags.{serve_tag, listen_tag}
-use Rattle.warp_runner.specs.Acts.{Acts, nothing, called, counted, found_all_out, watched, then}
+use Rattle.warp_runner.specs.Acts.{Acts, nothing, called, counted, found_all_out, watched}
 use Rattle.warp_runner.specs.Deeds.{handing, registering, shut_by, tried}
 use Rattle.whole_runs.specs.Registrations.{CountsFor, registers}
-use Rattle.whole_runs.proofs.Flows.{Credit, Flows, accepted, accepted_any, accepts_of, given, of_job, of_shut}
-use Rattle.whole_runs.proofs.Flows.{shut, shut_at}
-use Rattle.whole_runs.proofs.Flowing.{JournalFits, flows_fit, flows_then}
+use Rattle.whole_runs.proofs.Flows.{Credit, Flows, accepted, accepted_any, accepts_of, given, of_shut}
+use Rattle.whole_runs.proofs.Flows.{shut_at}
+use Rattle.whole_runs.proofs.Flowing.{flows_fit}
 
 -- nothing may be done
 abbrev pub none : Credit

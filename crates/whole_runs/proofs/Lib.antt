@@ -12,3 +12,5 @@ pub mod Openings
 pub mod Opened
 pub mod Totals
 pub mod Served
+pub mod EndCauses
+pub mod EndsTold

@@ -1,7 +1,7 @@
 -- What a run of the listener, and the beginning, takes and gives.
-use Rattle.std.proofs.Common.{◌≡◌, ◌⊎◌, ℕ, zero, suc, ◌+◌, ◌≤◌, List, [], ◌∷◌, Bool, true, false, ⊎_elim, inl}
-use Rattle.std.proofs.Common.{inr, refl, sym, ap, ◌∙◌, subst, arith}
-use Rattle.std.specs.Prelude.{Option, Some, None}
+use Rattle.std.proofs.Common.{◌≡◌, ◌⊎◌, ℕ, List, [], ◌∷◌, ⊎_elim}
+use Rattle.std.proofs.Common.{inr, refl, sym, subst}
+use Rattle.std.specs.Prelude.{Option, None}
 use Rattle.reg_keys.specs.declared.opening.Opening.{Opening}
 use Rattle.reg_keys.specs.declared.registration.Dir.{Dir}
 use Rattle.reg_keys.specs.declared.registration.Dir.TheVariants as Dirs
@@ -12,29 +12,28 @@ use Rattle.reg_keys.specs.declared.entry.RegisterOutcome.TheVariants as Register
 use Rattle.timeout_mgr.specs.declared.view.TimeCall.TheVariants.{Add}
 use Rattle.timeout_mgr.specs.declared.view.AddOutcome.TheVariants as Adds
 use Rattle.conn_loop.specs.declared.step.End.TheVariants.{NoMemory}
-use Rattle.outside.specs.Causes.{LinkTold}
 use Rattle.outside.specs.ListenCauses.{ListenerTold}
 use Rattle.warp_tally.specs.declared.calls.TallyCall.TheVariants as Tallies
 use Rattle.warp_tally.specs.declared.calls.TallyReply.{TallyReply}
 use Rattle.warp_tally.specs.declared.calls.TallyEntry.{TallyEntry}
 use Rattle.warp_books.specs.declared.finish.Finish.{Finish}
-use Rattle.warp_books.specs.declared.finish.Finish.TheVariants.{Ended, TimedOut, TurnedAway}
+use Rattle.warp_books.specs.declared.finish.Finish.TheVariants.{Ended, TurnedAway}
 use Rattle.warp_books.specs.declared.finish.Turned.TheVariants as Turns
 use Rattle.warp_jobs.specs.HeldListener.{HeldListener}
 use Rattle.warp_jobs.specs.Sessions.{first_held}
 use Rattle.warp_jobs.specs.Tags.{listen_tag}
-use Rattle.warp_runner.specs.Acts.{Acts, nothing, called, counted, watched, then}
+use Rattle.warp_runner.specs.Acts.{Acts, called, counted, watched, then}
 use Rattle.warp_runner.specs.Deeds.{AreNoOpenings, IsAdmitting, IsBeginning, IsEntering, IsFailing, IsGoingOn}
 use Rattle.warp_runner.specs.Deeds.{IsLeaving, IsListenerRun, IsListening, IsNoOpening, IsNote}
 use Rattle.warp_runner.specs.Deeds.{IsOpenedAtLast, IsOpenedNever, IsOpeningSpent, IsStarting, IsStartingAt}
 use Rattle.warp_runner.specs.Deeds.{IsTakingLink, IsTriedUntilSpent, IsTriedUntilTaken, IsTurningAway}
 use Rattle.warp_runner.specs.Deeds.{IsUnmade, registering, tried, unserved}
-use Rattle.whole_runs.specs.Registrations.{CountsFor, MayLackOne}
-use Rattle.whole_runs.proofs.Flows.{Credit, Flows}
-use Rattle.whole_runs.proofs.Flowing.{JournalFits, flows_fit, flows_then}
+use Rattle.whole_runs.specs.Registrations.{MayLackOne}
+use Rattle.whole_runs.proofs.Flows.{Flows}
+use Rattle.whole_runs.proofs.Flowing.{flows_then}
 use Rattle.whole_runs.proofs.Leaves.{accept, accept_none, by_acts, call_quiet, close_quiet, find_all_out}
 use Rattle.whole_runs.proofs.Leaves.{find_taken, idle, listen, look, none, one_job, one_link, one_opening}
-use Rattle.whole_runs.proofs.Leaves.{open_one, stop, try_listen, turn_away, unused, wasted, watch}
+use Rattle.whole_runs.proofs.Leaves.{open_one, stop, try_listen, turn_away, wasted, watch}
 use Rattle.whole_runs.proofs.RunFlows.{ending_bare_flows, ending_flows, registering_flows}
 
 -- ---- a link begins to be served

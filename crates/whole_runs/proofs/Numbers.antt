@@ -1,14 +1,13 @@
 -- Registrations by their numbers: each that was accepted has one.
-use Rattle.std.proofs.Common.{◌≡◌, ℕ, zero, suc, ◌+◌, ◌≤◌, ◌<◌, ⊎_elim, List, [], ◌∷◌, true, false, Bool, sym}
-use Rattle.std.proofs.Common.{refl, ap, ◌∙◌, arith}
+use Rattle.std.proofs.Common.{◌≡◌, ℕ, zero, suc, ◌+◌, ◌≤◌, ◌<◌, ⊎_elim, List, [], ◌∷◌, true, false, Bool}
+use Rattle.std.proofs.Common.{refl, ap, arith}
 use Rattle.std.specs.Prelude.{◌==◌, ◌&&◌, nat_lt}
 use Rattle.std.proofs.lemmas.Bool.{eq-eqb, ne_eqb, ltb-true, ltb-false, cases_Bool}
 use Rattle.reg_keys.specs.declared.opening.Opening.{Opening}
 use Rattle.reg_keys.specs.declared.entry.LoadKind.{LoadKind}
-use Rattle.reg_keys.specs.declared.entry.LoadKind.TheVariants.{Job, Flag}
+use Rattle.reg_keys.specs.declared.entry.LoadKind.TheVariants.{Job}
 use Rattle.reg_keys.specs.declared.entry.Entry.{Entry}
-use Rattle.reg_keys.specs.declared.entry.Entry.TheVariants.{Open, Report, Register, Withdraw, Ask, Dispatch}
-use Rattle.reg_keys.specs.declared.entry.Entry.TheVariants.{Close}
+use Rattle.reg_keys.specs.declared.entry.Entry.TheVariants.{Register}
 use Rattle.reg_keys.specs.declared.entry.RegisterOutcome.TheVariants.{Waits}
 use Rattle.reg_keys.specs.Tests.{one_if}
 use Rattle.reg_keys.specs.AllStripes.{sum_below}

@@ -8,24 +8,19 @@ use Rattle.reg_keys.specs.declared.opening.Opening.{Opening}
 use Rattle.reg_keys.specs.declared.registration.Dir.{Dir}
 use Rattle.reg_keys.specs.declared.registration.Dir.TheVariants as Dirs
 use Rattle.reg_keys.specs.declared.registration.Marks.{Marks}
-use Rattle.reg_keys.specs.declared.entry.Entry.{Entry}
 use Rattle.reg_keys.specs.declared.entry.Entry.TheVariants as Entries
 use Rattle.reg_keys.specs.declared.entry.LoadKind.TheVariants as Kinds
 use Rattle.reg_keys.specs.declared.entry.OpenOutcome.TheVariants as Opens
 use Rattle.reg_keys.specs.declared.entry.RegisterOutcome.{RegisterOutcome}
 use Rattle.reg_keys.specs.declared.entry.RegisterOutcome.TheVariants as Registers
-use Rattle.reg_keys.specs.declared.entry.CloseOutcome.{CloseOutcome}
 use Rattle.reg_keys.specs.declared.entry.ShutKey.{ShutKey}
 use Rattle.reg_keys.specs.Accounts.{opens}
-use Rattle.reg_keys.specs.Tests.{one_if, same, total}
+use Rattle.reg_keys.specs.Tests.{one_if, same}
 use Rattle.turn_cell.specs.Weights.{weigh}
 use Rattle.turn_cell.specs.ListLaws.{weigh-append}
 use Rattle.timeout_mgr.specs.declared.view.WatchName.{WatchName}
 use Rattle.conn_loop.specs.declared.step.End.TheVariants.{NoMemory}
-use Rattle.outside.specs.Causes.{LinkTold}
-use Rattle.outside.specs.ListenCauses.{ListenerTold}
 use Rattle.warp_tally.specs.declared.calls.TallyCall.TheVariants as Tallies
-use Rattle.warp_tally.specs.declared.calls.TallyReply.{TallyReply}
 use Rattle.warp_tally.specs.declared.calls.TallyEntry.{TallyEntry}
 use Rattle.warp_tally.specs.Accounts.{accepted_by, accepts, times}
 use Rattle.warp_books.specs.declared.finish.Finish.TheVariants.{Ended, TimedOut, TurnedAway}
@@ -35,15 +30,15 @@ use Rattle.warp_jobs.specs.Held.{Held}
 use Rattle.warp_jobs.specs.HeldListener.{HeldListener}
 use Rattle.warp_jobs.specs.Sessions.{first_held}
 use Rattle.warp_jobs.specs.Tags.{listen_tag}
-use Rattle.warp_runner.specs.Acts.{Acts, called, counted, then}
+use Rattle.warp_runner.specs.Acts.{Acts, called, then}
 use Rattle.warp_runner.specs.Deeds.{InTurn, IsAdmitting, IsBeginning, IsConnectionRun, IsEnding, IsEndingBare}
 use Rattle.warp_runner.specs.Deeds.{IsEntering, IsFailing, IsGoingOn, IsHanding, IsLeaving, IsLetGo}
-use Rattle.warp_runner.specs.Deeds.{IsListenerRun, IsListening, IsNoOpening, IsNote, IsOpeningSpent}
-use Rattle.warp_runner.specs.Deeds.{IsParting, IsRegistering, IsStarting, IsSweeping, IsTakingLink}
+use Rattle.warp_runner.specs.Deeds.{IsListenerRun, IsListening, IsNoOpening, IsNote}
+use Rattle.warp_runner.specs.Deeds.{IsParting, IsRegistering, IsSweeping, IsTakingLink}
 use Rattle.warp_runner.specs.Deeds.{IsTimingOut, IsTriedUntilSpent, IsTriedUntilTaken, IsTurningAway}
 use Rattle.warp_runner.specs.Deeds.{end_of_shut, finished_held, mark_at, no_memory, registering, shut_by}
 use Rattle.warp_runner.specs.Deeds.{spent, tried, unserved}
-use Rattle.warp_runner.specs.Journal.{AreDeeds, Deed, HasOne, IsDeed, IsRun, all_of}
+use Rattle.warp_runner.specs.Journal.{AreDeeds, Deed, HasOne, IsDeed, all_of}
 use Rattle.whole_runs.specs.Accounts.{OpensUncounted}
 use Rattle.whole_runs.proofs.Openings.{same_turned}
 

@@ -34,8 +34,10 @@ use Rattle.whole_runs.proofs.Numbers.{by_numbers, most_of}
 
 -- what is known of one dispatcher: what it handed to its book, each connection with how often it was
 -- registered, and that it registered and handed over no more than its pass's own entries let it
-pub record PassFlows (u : ServeTold) : Type 0 where
+pub record PassFlows (limit : ℕ) (u : ServeTold) : Type 0 where
+  pub journal : JournalFits limit u []
   pub handed : List Handed
+  pub told : map (λ (h : Handed). h.0) handed ≡ all_of (λ d. d.acts.handed) journal.deeds
   pub book : IsBookOf (map (λ (h : Handed). h.0) handed) u.book
   pub count : AllCount handed
   pub first : (these : Opening → Bool)
@@ -127,9 +129,11 @@ module _ (limit : ℕ) (u : ServeTold) (fits : JournalFits limit u []) where
       let d = jobs_weigh φ deeds in
       let e = weighs (shut these k) (of_server (shut these k) (λ o ds r. refl) (λ x r. refl)) in omega arith
 
-  pub pass_flows : PassFlows u
+  pub pass_flows : PassFlows limit u
   pass_flows = let s = journal_flows limit deeds fits.explains.lawful in record {
+    journal = fits;
     handed = s.handed;
+    told = s.told ∙ acts_are (λ a. a.handed) refl (λ a b. refl) deeds;
     book =
         subst (λ (l : List FinishedTold). IsBookOf l u.book)
         (sym (s.told ∙ acts_are (λ a. a.handed) refl (λ a b. refl) deeds)) fits.explains.book;

@@ -1,6 +1,6 @@
 -- What a run of a connection, and a sweep, takes and gives.
 use Rattle.std.proofs.Common.{◌≡◌, ℕ, zero, suc, ◌+◌, ◌≤◌, List, [], ◌∷◌, Bool, true, false, ⊎_elim, inl, inr}
-use Rattle.std.proofs.Common.{refl, sym, ap, ◌∙◌, subst, arith}
+use Rattle.std.proofs.Common.{refl, sym, ap, subst, arith}
 use Rattle.std.specs.Prelude.{◌==◌, ◌&&◌, Option, Some, None}
 use Rattle.reg_keys.specs.declared.opening.Opening.{Opening}
 use Rattle.reg_keys.specs.declared.registration.Dir.{Dir}
@@ -10,11 +10,10 @@ use Rattle.reg_keys.specs.declared.entry.LoadKind.{LoadKind}
 use Rattle.reg_keys.specs.declared.entry.LoadKind.TheVariants as Kinds
 use Rattle.reg_keys.specs.declared.entry.RegisterOutcome.TheVariants as Registers
 use Rattle.reg_keys.specs.declared.entry.ShutKey.{ShutKey}
-use Rattle.reg_keys.specs.Tests.{one_if, total}
+use Rattle.reg_keys.specs.Tests.{one_if}
 use Rattle.timeout_mgr.specs.declared.view.WatchName.{WatchName}
 use Rattle.timeout_mgr.specs.declared.view.TimeCall.TheVariants.{Tickle, Sweep}
 use Rattle.conn_loop.specs.declared.step.End.{End}
-use Rattle.warp_books.specs.declared.finish.Finish.{Finish}
 use Rattle.warp_books.specs.declared.finish.Finish.TheVariants.{Ended, TimedOut, TurnedAway}
 use Rattle.warp_books.specs.declared.finish.Turned.TheVariants as Turns
 use Rattle.warp_books.specs.Books.{FinishedTold}
@@ -25,10 +24,10 @@ use Rattle.warp_runner.specs.Deeds.{InTurn, IsConnectionRun, IsEnding, IsEndingB
 use Rattle.warp_runner.specs.Deeds.{IsParting, IsRegistering, IsSweeping, IsTimingOut, end_of_shut}
 use Rattle.warp_runner.specs.Deeds.{finished_held, handing, mark_at, registering, shut_by}
 use Rattle.whole_runs.specs.Registrations.{CountsFor, MayLackOne}
-use Rattle.whole_runs.proofs.Flows.{Credit, Flows, of_job, of_shut, shut_at}
-use Rattle.whole_runs.proofs.Flowing.{JournalFits, flows_fit, flows_then}
+use Rattle.whole_runs.proofs.Flows.{Flows, of_job, of_shut, shut_at}
+use Rattle.whole_runs.proofs.Flowing.{flows_fit, flows_then}
 use Rattle.whole_runs.proofs.Leaves.{by_acts, close, close_quiet, hand, idle, call_quiet, job_next, job_none}
-use Rattle.whole_runs.proofs.Leaves.{none, one_job, register, unused, wasted, watch}
+use Rattle.whole_runs.proofs.Leaves.{none, one_job, register, wasted, watch}
 
 -- ---- a connection ends
 

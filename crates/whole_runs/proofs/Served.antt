@@ -1,5 +1,5 @@
 -- What a server hands back, as passes and books.
-use Rattle.std.proofs.Common.{◌≡◌, ◌⊎◌, ℕ, ◌+◌, ◌≤◌, List, [], ◌∷◌, map, All, ⊎_elim, inl, inr, refl, ap}
+use Rattle.std.proofs.Common.{◌⊎◌, ℕ, ◌≤◌, List, [], ◌∷◌, All, ⊎_elim, inl, inr, refl, ap}
 use Rattle.std.proofs.Common.{arith}
 use Rattle.std.specs.Prelude.{get_or}
 use Rattle.outside.specs.declared.files.Files.{Ghosts}

@@ -1,5 +1,5 @@
 -- What adds up, once all passes are level: what ended was registered, and each opening was made once.
-use Rattle.std.proofs.Common.{◌≡◌, ℕ, zero, suc, ◌+◌, ◌≤◌, ◌<◌, List, [], ◌∷◌, ◌++◌, length, All, Bool, true}
+use Rattle.std.proofs.Common.{◌≡◌, ℕ, zero, suc, ◌+◌, ◌≤◌, ◌<◌, ◌^◌, List, [], ◌∷◌, ◌++◌, length, All, Bool, true}
 use Rattle.std.proofs.Common.{false, ⊎_elim, inl, inr, refl, sym, ap, ◌∙◌, subst, arith}
 use Rattle.std.specs.Prelude.{IfSome, ◌==◌, ◌&&◌}
 use Rattle.std.proofs.lemmas.Bool.{eqb-true, eqb-false, eq-eqb, ne_eqb, cases_Bool}
@@ -31,8 +31,8 @@ use Rattle.warp_core.specs.Ends.{IsOver, tally_weight}
 use Rattle.whole_runs.specs.Registrations.{CountsFor, MayLackOne, registers, taken}
 use Rattle.whole_runs.proofs.Flows.{AllCount, AreExplainedBy, Handed, accepted, accepts_of, ended, is_handed}
 use Rattle.whole_runs.proofs.Flows.{of_job, opens_of}
-use Rattle.whole_runs.specs.Accounts.{AreCounted, AreTaken, IsAllClean, IsCounted, IsUncapped, OpeningsAddUp}
-use Rattle.whole_runs.specs.Accounts.{OverAddsUp, RunsAddUp, WaitsAddUp, any, whole}
+use Rattle.whole_runs.specs.Accounts.{AreCounted, AreTaken, BooksAddUp, IsAllClean, IsCounted, IsUncapped}
+use Rattle.whole_runs.specs.Accounts.{OpeningsAddUp, OverAddsUp, RunsAddUp, WaitsAddUp, any, whole}
 use Rattle.whole_runs.proofs.Chains.{above, registered, registered_all, sum_le}
 use Rattle.whole_runs.proofs.AllFlows.{AllFlows, AllOf, all_flows, own_end, own_le, own_none}
 use Rattle.whole_runs.proofs.Openings.{same_self, same_turned}
@@ -115,9 +115,9 @@ waits_clean (h ∷ hs) count clean =
 
 -- ---- the totals
 
-module _ {A L : Type 0} (known : A → PassView L) (x : A) (ys : List A) (books : List BookTold)
+module _ {A L : Type 0} (known : A → PassView L) (limit : ℕ) (x : A) (ys : List A) (books : List BookTold)
     (ends : EndsRegistered) (once : StripesHappenOnce) (follow : FinishesFollow) (up : PassesAddUp known x ys)
-    (flows : AllFlows known (x ∷ ys) books) where
+    (flows : AllFlows known limit (x ∷ ys) books) where
   abbrev xs : List A
   xs = x ∷ ys
 
@@ -180,7 +180,7 @@ module _ {A L : Type 0} (known : A → PassView L) (x : A) (ys : List A) (books 
       (counted_of (λ o. whole known (registers (same o)) xs) flows.handed
       (there_in flows.handed flows.handed (λ f. omega arith)) registered_is flows.count)
 
-  module _ (limit : ℕ) (counts : Counts) (over : IsOver known limit counts xs) where
+  module _ (counts : Counts) (over : IsOver known limit counts xs) where
     -- all that were accepted are as many as the numbers of registrations together
     registered_together : whole known (registers any) xs ≡ total (λ (h : Handed). h.1) flows.handed
     unfolding many_at
@@ -216,12 +216,28 @@ module _ {A L : Type 0} (known : A → PassView L) (x : A) (ys : List A) (books 
     turned = flows.links;
   }
 
-  pub runs_add_up : RunsAddUp known xs books
-  runs_add_up = record { each = are_counted; openings = openings_add_up; taken_by = flows.took }
+  finished_once : (o : Opening) → tally_weight known (finishes o) xs ≤ 1
+  finished_once o =
+      let a = openings_add_up.finished o in
+      let b = accepts_le o in
+      let c = opens_le o in omega arith
 
-  pub over_adds_up : (limit : ℕ) (counts : Counts) → IsOver known limit counts xs
+  books_add_up : BooksAddUp known limit xs books
+  books_add_up = record {
+    counted = flows.lists;
+    own = flows.took;
+    each = flows.each;
+    once = λ o.
+        let a = flows.each o in
+        let b = finished_once o in omega arith;
+  }
+
+  pub runs_add_up : RunsAddUp known limit xs books
+  runs_add_up = record { each = are_counted; openings = openings_add_up; taken_by = books_add_up }
+
+  pub over_adds_up : (counts : Counts) → limit < 2 ^ 64 → IsOver known limit counts xs
       → OverAddsUp known limit counts xs books
-  over_adds_up limit counts over = record {
+  over_adds_up counts fits over = record {
     limit_is = over.limit_is;
     accepted =
         let a = over.accepted in
@@ -231,7 +247,14 @@ module _ {A L : Type 0} (known : A → PassView L) (x : A) (ys : List A) (books 
         let a = over.turned in
         let b = flows.links in omega arith;
     each_finished = over.each;
-    waits = waits_add_up limit counts over;
+    ends =
+        let a = over.limit_is in
+        let b = over.accepted in
+        let c = over.turned in
+        let d = over.finished in
+        let e = flows.many in
+        let f = flows.kinds (omega arith) in omega arith;
+    waits = waits_add_up counts over;
   }
 
 -- no passes, and no books
@@ -239,8 +262,9 @@ module _ {A L : Type 0} (known : A → PassView L) where
   none_counted : AreCounted known [] []
   none_counted = All-nil (λ (b : BookTold). IfSome b.kept (λ ds. All (λ d. IsCounted known [] d) ds))
 
-  pub no_runs_add_up : (books : List BookTold) → AreTaken known [] books → RunsAddUp known [] books
-  no_runs_add_up [] taken_by = record {
+  pub no_runs_add_up : (limit : ℕ) (books : List BookTold) (lists : List (List FinishedTold))
+      → AreTaken known limit [] books lists → RunsAddUp known limit [] books
+  no_runs_add_up limit [] [] taken_by = record {
     each = none_counted;
     openings = record {
       finished = λ o. omega arith;
@@ -248,22 +272,31 @@ module _ {A L : Type 0} (known : A → PassView L) where
       opened = λ o. omega arith;
       turned = omega arith;
     };
-    taken_by = tt;
+    taken_by = record { counted = []; own = tt; each = λ o. refl; once = λ o. omega arith };
   }
-  no_runs_add_up (b ∷ books) taken_by = absurd taken_by
+  no_runs_add_up limit [] (ds ∷ lists) taken_by = absurd taken_by
+  no_runs_add_up limit (b ∷ books) [] taken_by = absurd taken_by
+  no_runs_add_up limit (b ∷ books) (ds ∷ lists) taken_by = absurd taken_by
 
-  pub none_over : (limit : ℕ) (counts : Counts) (books : List BookTold) → AreTaken known [] books
+  pub none_over : (limit : ℕ) (counts : Counts) (books : List BookTold) (lists : List (List FinishedTold))
+      → AreTaken known limit [] books lists
       → IsOver known limit counts [] → OverAddsUp known limit counts [] books
-  none_over limit counts [] taken_by over = record {
+  none_over limit counts [] [] taken_by over = record {
     limit_is = over.limit_is;
     accepted =
         let a = over.accepted in
         let b = over.turned in omega arith;
     turned = let b = over.turned in omega arith;
     each_finished = over.each;
+    ends =
+        let a = over.limit_is in
+        let b = over.accepted in
+        let c = over.turned in omega arith;
     waits = λ small. record { least = omega arith; most = omega arith; clean = λ clean. omega arith };
   }
-  none_over limit counts (b ∷ books) taken_by over = absurd taken_by
+  none_over limit counts [] (ds ∷ lists) taken_by over = absurd taken_by
+  none_over limit counts (b ∷ books) [] taken_by over = absurd taken_by
+  none_over limit counts (b ∷ books) (ds ∷ lists) taken_by over = absurd taken_by
 
 -- passes that are level, with books, of which journals explain what they say
 module _ {A L : Type 0} (known : A → PassView L) where
@@ -276,19 +309,21 @@ module _ {A L : Type 0} (known : A → PassView L) where
   pub all_runs : (limit : ℕ) (xs : List A) (books : List BookTold) → EndsRegistered
       → StripesHappenOnce → FinishesFollow → AddUpAll
       → All (λ y. IsLawfulPass (known y)) xs → ArePassesLevel known xs → AreExplainedBy known limit xs books
-      → RunsAddUp known xs books
+      → RunsAddUp known limit xs books
   all_runs limit [] books ends once follow up lawful level explained =
-      no_runs_add_up known books (all_flows known limit [] books explained).took
+      let flows = all_flows known limit [] books explained in
+      no_runs_add_up known limit books flows.lists flows.took
   all_runs limit (x ∷ ys) books ends once follow up lawful level explained =
-      runs_add_up known x ys books ends once follow (up x ys lawful level)
+      runs_add_up known limit x ys books ends once follow (up x ys lawful level)
       (all_flows known limit (x ∷ ys) books explained)
 
-  pub all_over : (limit : ℕ) (counts : Counts) (xs : List A) (books : List BookTold) → EndsRegistered
-      → StripesHappenOnce → FinishesFollow → AddUpAll
+  pub all_over : (limit : ℕ) (counts : Counts) (xs : List A) (books : List BookTold) → limit < 2 ^ 64
+      → EndsRegistered → StripesHappenOnce → FinishesFollow → AddUpAll
       → All (λ y. IsLawfulPass (known y)) xs → ArePassesLevel known xs → AreExplainedBy known limit xs books
       → IsOver known limit counts xs → OverAddsUp known limit counts xs books
-  all_over limit counts [] books ends once follow up lawful level explained over =
-      none_over known limit counts books (all_flows known limit [] books explained).took over
-  all_over limit counts (x ∷ ys) books ends once follow up lawful level explained over =
-      over_adds_up known x ys books ends once follow (up x ys lawful level)
-      (all_flows known limit (x ∷ ys) books explained) limit counts over
+  all_over limit counts [] books fits ends once follow up lawful level explained over =
+      let flows = all_flows known limit [] books explained in
+      none_over known limit counts books flows.lists flows.took over
+  all_over limit counts (x ∷ ys) books fits ends once follow up lawful level explained over =
+      over_adds_up known limit x ys books ends once follow (up x ys lawful level)
+      (all_flows known limit (x ∷ ys) books explained) counts fits over

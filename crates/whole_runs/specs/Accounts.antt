@@ -11,18 +11,18 @@ use Rattle.event_mgr.specs.Manager.{own_weight}
 use Rattle.outside.specs.ListenCauses.{ListenerTold}
 use Rattle.conn_loop.specs.declared.step.End.TheVariants.{Clean, Cut, ReadFault, WriteFault, FileFault}
 use Rattle.conn_loop.specs.declared.step.End.TheVariants.{NoMemory}
-use Rattle.warp_tally.specs.Accounts.{accepts, finishes, finishes_any, finished_in, turns_away}
+use Rattle.warp_tally.specs.Accounts.{accepts, finishes, finishes_any, finished_in, times, turns_away}
 use Rattle.warp_books.specs.declared.finish.Finish.{Finish}
 use Rattle.warp_books.specs.declared.finish.Finish.TheVariants.{Ended, TimedOut, TurnedAway}
 use Rattle.warp_books.specs.declared.finish.Turned.TheVariants.{Watches, Crowded, Poller, Shut}
-use Rattle.warp_books.specs.Books.{BookTold, FinishedTold, same_kind}
+use Rattle.warp_books.specs.Books.{BookTold, FinishedTold, IsBookOf, same_kind}
 use Rattle.warp_jobs.specs.declared.kit.Kit.{Kit}
 use Rattle.warp_passes.specs.Own.{entries_of}
 use Rattle.warp_passes.specs.declared.shared.ServePass.{ServePass}
 use Rattle.warp_passes.specs.Passes.{PassView, pass_view}
-use Rattle.warp_runner.specs.Acts.{all_out_in}
+use Rattle.warp_runner.specs.Acts.{all_out_in, told_of}
 use Rattle.warp_runner.specs.Deeds.{IsStarting}
-use Rattle.warp_runner.specs.Journal.{Deed}
+use Rattle.warp_runner.specs.Journal.{Deed, JournalFits, all_of}
 use Rattle.warp_core.specs.declared.served.Counts.{Counts}
 use Rattle.warp_core.specs.declared.served.Served.{Served}
 use Rattle.warp_core.specs.declared.served.ServeEnd.{ServeEnd}
@@ -31,6 +31,7 @@ use Rattle.warp_core.specs.declared.served.ServeEnd.TheVariants as Serving
 use Rattle.warp_core.specs.Ends.{tally_weight}
 use Rattle.warp_core.specs.Journals.{SomeDid}
 use Rattle.whole_runs.specs.Registrations.{CountsFor, registers, taken}
+use Rattle.whole_runs.specs.EndCauses.{AllEndsRest}
 
 -- every opening
 abbrev pub any : Opening → Bool
@@ -55,6 +56,10 @@ abbrev pub all_kinds : List Finish
 all_kinds =
     Ended Clean ∷ Ended Cut ∷ Ended ReadFault ∷ Ended WriteFault ∷ Ended FileFault ∷ Ended NoMemory ∷ TimedOut
     ∷ TurnedAway Watches ∷ TurnedAway Crowded ∷ TurnedAway Poller ∷ TurnedAway Shut ∷ []
+
+-- the openings of some connections
+abbrev pub openings_in : List FinishedTold → List Opening
+openings_in ds = map (λ d. d.opening) ds
 
 -- a deed made this opening and didn't count it, which the beginning does, and one that stopped its dispatcher
 abbrev pub OpensUncounted : Opening → Deed → Type 0
@@ -106,34 +111,50 @@ module _ {A L : Type 0} (known : A → PassView L) where
     pub opened : (o : Opening) → whole (opens o) xs ≤ 1
     pub turned : tally_weight known turns_away xs ≤ weigh (λ x. all_out_in (known x).mgr) xs + whole taken xs
 
-  -- A book was handed exactly the connections of which the pass's own finishes counted, in their order: a
-  -- list that it tells is of these, and the kinds of ends that it counts add up to as many, where no
-  -- count is at the end of its type
-  pub record TookWhatCounted (x : A) (b : BookTold) : Type 0 where
-    pub list : IfSome b.kept (λ ds. map (λ d. d.opening) ds ≡ finished_in (entries_of (known x).tally))
+  -- A journal explains what the pass and the book say, and its deeds handed these connections over, in this
+  -- order. They are what the book was handed, so that its numbers are their sums, and a list that it tells is
+  -- this one. One by one they are the connections of which the pass's own finishes counted; so where no count is
+  -- at the end of its type, the kinds of ends that the book counts add up to as many
+  pub record TookWhatCounted (limit : ℕ) (x : A) (b : BookTold) (counted : List FinishedTold) : Type 0 where
+    pub journal : JournalFits limit (told_of (known x).mgr (known x).tally (known x).times b) []
+    pub deeds : counted ≡ all_of (λ d. d.acts.handed) journal.deeds
+    pub book : IsBookOf counted b
+    pub each : openings_in counted ≡ finished_in (entries_of (known x).tally)
     pub many : ((k : Finish) → b.sums.ends k < 2 ^ 64 - 1)
         → total b.sums.ends all_kinds ≡ weigh finishes_any (entries_of (known x).tally)
 
   -- so at each place
-  abbrev pub AreTaken : List A → List BookTold → Type 0
-  AreTaken [] [] = Unit {0}
-  AreTaken (x ∷ xs) (b ∷ books) = TookWhatCounted x b × AreTaken xs books
-  AreTaken _ _ = ⊥
+  abbrev pub AreTaken : ℕ → List A → List BookTold → List (List FinishedTold) → Type 0
+  AreTaken limit [] [] [] = Unit {0}
+  AreTaken limit (x ∷ xs) (b ∷ books) (ds ∷ lists) = TookWhatCounted limit x b ds × AreTaken limit xs books lists
+  AreTaken _ _ _ _ = ⊥
+
+  -- These are the connections that each book was handed: those that its own pass counted. All books together
+  -- were handed an opening as often as all passes finished it, and once at most. So each connection that is
+  -- finished is in one book, that of the pass which counted it
+  pub record BooksAddUp (limit : ℕ) (xs : List A) (books : List BookTold) : Type 0 where
+    pub counted : List (List FinishedTold)
+    pub own : AreTaken limit xs books counted
+    pub each : (o : Opening)
+        → total (λ ds. times o (openings_in ds)) counted ≡ tally_weight known (finishes o) xs
+    pub once : (o : Opening) → total (λ ds. times o (openings_in ds)) counted ≤ 1
 
   -- however a server ended: each connection that a book tells was registered as often as it says, no opening
   -- was finished twice, and each book was handed what its pass counted
-  pub record RunsAddUp (xs : List A) (books : List BookTold) : Type 0 where
+  pub record RunsAddUp (limit : ℕ) (xs : List A) (books : List BookTold) : Type 0 where
     pub each : AreCounted xs books
     pub openings : OpeningsAddUp xs
-    pub taken_by : AreTaken xs books
+    pub taken_by : BooksAddUp limit xs books
 
-  -- a server is over: it accepted as many links as it was to, each was finished or turned
-  -- away, and all registrations add up
+  -- A server is over: it accepted as many links as it was to, each was finished or turned away, and all
+  -- registrations add up. The ends that all books count, of all kinds, and the links that were turned away are
+  -- as many as the server was to accept
   pub record OverAddsUp (limit : ℕ) (counts : Counts) (xs : List A) (books : List BookTold) : Type 0 where
     pub limit_is : counts.accepted ≡ limit
     pub accepted : counts.accepted ≡ tally_weight known finishes_any xs + counts.turned
     pub turned : counts.turned ≤ weigh (λ x. all_out_in (known x).mgr) xs + whole taken xs
     pub each_finished : (o : Opening) → tally_weight known (finishes o) xs ≡ tally_weight known (accepts o) xs
+    pub ends : total (λ b. total b.sums.ends all_kinds) books + counts.turned ≡ limit
     pub waits : All IsUncapped books → WaitsAddUp xs books
 
 module _ {J P F C B G X : Type 0} {H : Ghosts F X} (told : B → BookTold) where
@@ -145,9 +166,10 @@ module _ {J P F C B G X : Type 0} {H : Ghosts F X} (told : B → BookTold) where
       ⊎ SomeDid told limit passes kits (OpensUncounted o)
 
 module _ {P F C B G L I X : Type 0} {H : Ghosts F X} (told : B → BookTold) where
-  -- what a server of this many links leaves behind adds up
+  -- what a server of this many links leaves behind adds up, and the ends that it tells have their causes
   pub record ServedAddsUp (limit : ℕ) (s : Served P F C B G L I X H) : Type 0 where
-    pub runs : RunsAddUp pass_view s.passes.items (books_of told s.kits.items)
+    pub runs : RunsAddUp pass_view limit s.passes.items (books_of told s.kits.items)
+    pub causes : AllEndsRest pass_view s.passes.items (books_of told s.kits.items)
     pub opened : OpeningsAreCounted told limit s.passes.items s.kits.items
     pub over : WhereOver s.end
         (λ counts. OverAddsUp pass_view limit counts s.passes.items (books_of told s.kits.items))

@@ -1,2 +1,3 @@
 pub mod Registrations
+pub mod EndCauses
 pub mod Accounts

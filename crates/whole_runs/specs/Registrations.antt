@@ -1,7 +1,7 @@
 -- To be believed: how the registrations that were accepted of connections are counted.
 use Rattle.std.specs.Prelude.{◌≡◌, ◌⊎◌, ℕ, ◌+◌, ◌&&◌, List, [], ◌∷◌, Bool, true, false}
 use Rattle.reg_keys.specs.declared.opening.Opening.{Opening}
-use Rattle.reg_keys.specs.declared.entry.LoadKind.TheVariants.{Job, Flag}
+use Rattle.reg_keys.specs.declared.entry.LoadKind.TheVariants.{Job}
 use Rattle.reg_keys.specs.declared.entry.Entry.{Entry}
 use Rattle.reg_keys.specs.declared.entry.Entry.TheVariants.{Open, Register}
 use Rattle.reg_keys.specs.declared.entry.OpenOutcome.TheVariants.{Taken}

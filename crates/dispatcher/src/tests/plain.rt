@@ -2,6 +2,8 @@
 ghost use Rattle.std.specs.Prelude.{◌≡◌, [], IfNone, IfOk};
 ghost use Rattle.std.specs.Option.{option_to_list};
 ghost use Rattle.ready_queue.specs.Calls.{IsOf};
+ghost use Rattle.ready_queue.specs.Props.{history_prop};
+ghost use Rattle.std.proofs.Props.{props};
 ghost use Rattle.event_mgr.specs.Manager.{IsOfMgr, mgr_view};
 ghost use Rattle.dispatcher.specs.Runs.{HasMadeCalls, events_of};
 ghost use Rattle.dispatcher.specs.Turns.{AreOf};
@@ -13,6 +15,7 @@ use outside::Count;
 use poller::Reports;
 use ready_queue::{QPass, ReadyQueue, TakeOut};
 use reg_keys::{Dir, Dirs, Event, Opening};
+use std::alloc::Global;
 use std::sync::Wait;
 use std::test::Fail;
 use stripe_table::{Fired, Load, Payload, RegisterReply};
@@ -27,7 +30,7 @@ struct Watcher<'a> {
     found: u64,
     /// What the next run is to register for.
     next: Option<Opening>,
-    ghost own: { IsOf queue.now place },
+    ghost own: { IsOf queue.now place } by { Prim.hlevel (history_prop, props) },
 }
 
 /// The events of a run that named this one, if any.
@@ -115,6 +118,72 @@ fn register<R: Wait>(
     matches!(reply, RegisterReply::Waits(_, None))
 }
 
+/// An opening of which two jobs wait for a report, and one of which none does.
+fn waiting_and_free<R: Wait>(
+    rt: &R,
+    mgr: &EventManager<Job>,
+    pass: &mut MgrPass<Job>,
+) -> Result<(Opening, Opening), Fail>
+    requires { IsOfMgr mgr.now pass.old }
+    ensures { IsOfMgr mgr.now pass.new }
+{
+    let both = open(rt, mgr, pass)?;
+    let free = open(rt, mgr, pass)?;
+    if register(rt, mgr, pass, both, Dir::Read) && register(rt, mgr, pass, both, Dir::Write) {
+        Ok((both, free))
+    } else {
+        Err(Fail::from("not registered"))
+    }
+}
+
+/// A poller that reports this opening once, for both directions.
+fn poller_of(alloc: Global, opening: Opening) -> Result<Planned, Fail> {
+    let mut plan = Vec::with_capacity(alloc, 1)?;
+    plan.push((opening, Dirs::Both))?;
+    Ok(Planned {
+        plan,
+        fails: false,
+        idle: None,
+        faults: Count::new(),
+    })
+}
+
+/// A body that has found nothing, and is to register for this opening.
+fn watch_for<'a>(
+    queue: &'a ReadyQueue,
+    place: &mut QPass,
+    next: Opening,
+) -> Result<Watcher<'a>, Fail>
+    requires { IsOf queue.now place.old }
+    ensures { IsOf queue.now place.new }
+{
+    let own = queue.split(place)?;
+    Ok(Watcher {
+        queue,
+        place: own,
+        found: 0,
+        next: Some(next),
+    })
+}
+
+/// How two turns come out, and how many runs found an event in the queue.
+fn two_turns<'a, R: Wait>(
+    rt: &R,
+    mgr: &EventManager<Job>,
+    queue: &ReadyQueue,
+    passes: &mut DispPass<Job>,
+    runner: &mut PlainRunner<Planned, Watcher<'a>>,
+    reports: &mut Reports,
+) -> (Turned, Turned, u64)
+    requires { AreOf mgr.now queue.now passes.old }
+{
+    reports.clear();
+    let first = turn(rt, mgr, queue, passes, runner, reports, 8);
+    reports.clear();
+    let second = turn(rt, mgr, queue, passes, runner, reports, 8);
+    (first, second, runner.body.found)
+}
+
 #[test]
 fn an_event_that_a_run_named_is_queued_before_the_next_job_runs(
     rt: HostRuntime,
@@ -122,32 +191,16 @@ fn an_event_that_a_run_named_is_queued_before_the_next_job_runs(
     let alloc = rt.alloc();
     let (mgr, mut pass) = EventManager::<Job>::new(alloc)?;
     let (queue, mut place) = ReadyQueue::new(alloc, 8)?;
-    let both = open(&rt, &mgr, &mut pass)?;
-    let other = open(&rt, &mgr, &mut pass)?;
-    assert!(rt; register(&rt, &mgr, &mut pass, both, Dir::Read));
-    assert!(rt; register(&rt, &mgr, &mut pass, both, Dir::Write));
-    let mut plan = Vec::with_capacity(alloc, 1)?;
-    plan.push((both, Dirs::Both))?;
-    let poller = Planned {
-        plan,
-        fails: false,
-        idle: None,
-        faults: Count::new(),
+    let (both, free) = waiting_and_free(&rt, &mgr, &mut pass)?;
+    let mut runner = PlainRunner {
+        poller: poller_of(alloc, both)?,
+        body: watch_for(&queue, &mut place, free)?,
     };
-    let body = Watcher {
-        queue: &queue,
-        place: queue.split(&mut place)?,
-        found: 0,
-        next: Some(other),
-    };
-    let mut runner = PlainRunner { poller, body };
     let mut passes = DispPass::new(alloc, pass, place)?;
     let mut reports = Reports::new(alloc)?;
-    let first = turn(&rt, &mgr, &queue, &mut passes, &mut runner, &mut reports, 8);
-    assert_eq!(rt; first, Turned::Done { reports: 1, ran: 0 });
-    reports.clear();
-    let second = turn(&rt, &mgr, &queue, &mut passes, &mut runner, &mut reports, 8);
-    assert_eq!(rt; second, Turned::Done { reports: 0, ran: 2 });
-    assert_eq!(rt; runner.body.found, 1);
+    let came = two_turns(&rt, &mgr, &queue, &mut passes, &mut runner, &mut reports);
+    let reported = Turned::Done { reports: 1, ran: 0 };
+    let ran = Turned::Done { reports: 0, ran: 2 };
+    assert_eq!(rt; came, (reported, ran, 1));
     Ok(())
 }

@@ -203,19 +203,71 @@ fn are_distinct(keys: &[Key]) -> bool {
     true
 }
 
+/// A dispatcher on one thread: what its turns are made with, and a runner that keeps keys.
+#[derive(Drop)]
+struct Desk {
+    bench: Bench,
+    keeper: Keeper,
+}
+
+/// A desk with a queue of this capacity, an empty hand, and room for so many keys and planned pairs.
+fn desk_of(alloc: Global, capacity: u32, room: usize) -> Result<Desk, AllocError>
+    requires { 0 < capacity }
+    ensures own { IfOk result (λ d. AreOf d.bench.mgr d.bench.queue d.bench.passes) }
+    ensures stop { IfOk result (λ d. d.keeper.stopped ≡ None) }
+{
+    Ok(Desk {
+        bench: bench_of(alloc, capacity)?,
+        keeper: keeper_of(alloc, room)?,
+    })
+}
+
+impl Desk {
+    /// How many reports a turn made and how many keys it ran, where it was done, and whether its poll was to wait
+    /// for nothing.
+    fn turns<R: Wait>(&mut self, rt: &R) -> Result<(u64, u64, Option<bool>), Fail>
+        requires own { AreOf self.old.bench.mgr self.old.bench.queue self.old.bench.passes }
+        requires stop { self.old.keeper.stopped ≡ None }
+        ensures own { AreOf self.new.bench.mgr self.new.bench.queue self.new.bench.passes }
+        ensures stop { IfOk result (λ _. self.new.keeper.stopped ≡ None) }
+    {
+        let (reports, ran) = done(rt, &mut self.bench, &mut self.keeper)?;
+        Ok((reports, ran, self.keeper.poller.idle))
+    }
+
+    /// How many keys were run and shut, as far as that is told.
+    fn counts(&self) -> (Option<usize>, Option<usize>) {
+        (many(&self.keeper.runs), many(&self.keeper.shuts))
+    }
+
+    /// Whether this key was run first.
+    fn ran_first(&self, key: Key) -> bool {
+        key_at(&self.keeper.runs, 0) == Some(key)
+    }
+
+    /// Whether this key was shut first.
+    fn shut_first(&self, key: Key) -> bool {
+        key_at(&self.keeper.shuts, 0) == Some(key)
+    }
+
+    /// Whether no key ran twice.
+    fn ran_each_once(&self) -> bool {
+        match &self.keeper.runs {
+            Some(keys) => are_distinct(keys),
+            None => false,
+        }
+    }
+}
+
 #[test]
 fn a_job_runs_in_the_turn_after_its_report(rt: HostRuntime) -> Result<(), Fail> {
-    let mut bench = bench_of(rt.alloc(), 8)?;
-    let mut keeper = keeper_of(rt.alloc(), 8)?;
-    let key = plan_one(&rt, &mut bench, &mut keeper)?;
-    assert_eq!(rt; done(&rt, &mut bench, &mut keeper)?, (1, 0));
-    assert_eq!(rt; keeper.poller.idle, Some(true));
-    assert_eq!(rt; done(&rt, &mut bench, &mut keeper)?, (0, 1));
-    assert_eq!(rt; keeper.poller.idle, Some(false));
-    assert_eq!(rt; many(&keeper.runs), Some(1));
-    assert_eq!(rt; key_at(&keeper.runs, 0) == Some(key), true);
-    assert_eq!(rt; done(&rt, &mut bench, &mut keeper)?, (0, 0));
-    assert_eq!(rt; keeper.poller.idle, Some(true));
+    let mut desk = desk_of(rt.alloc(), 8, 8)?;
+    let key = plan_one(&rt, &mut desk.bench, &mut desk.keeper)?;
+    assert_eq!(rt; desk.turns(&rt)?, (1, 0, Some(true)));
+    assert_eq!(rt; desk.turns(&rt)?, (0, 1, Some(false)));
+    assert_eq!(rt; desk.counts().0, Some(1));
+    assert!(rt; desk.ran_first(key));
+    assert_eq!(rt; desk.turns(&rt)?, (0, 0, Some(true)));
     Ok(())
 }
 
@@ -224,45 +276,46 @@ const READY: u64 = 40;
 
 #[test]
 fn each_ready_descriptor_runs_once_over_a_queue_of_one_event(rt: HostRuntime) -> Result<(), Fail> {
-    let mut bench = bench_of(rt.alloc(), 1)?;
-    let mut keeper = keeper_of(rt.alloc(), 64)?;
-    plan_many(&rt, &mut bench, &mut keeper, READY)?;
-    let (reports, early) = done(&rt, &mut bench, &mut keeper)?;
+    let mut desk = desk_of(rt.alloc(), 1, 64)?;
+    plan_many(&rt, &mut desk.bench, &mut desk.keeper, READY)?;
+    let (reports, early, _) = desk.turns(&rt)?;
     assert_eq!(rt; reports, READY);
-    let (none, late) = done(&rt, &mut bench, &mut keeper)?;
+    let (none, late, _) = desk.turns(&rt)?;
     assert_eq!(rt; (none, early.wrapping_add(late)), (0, READY));
-    assert_eq!(rt; bench.passes.hand.len(), 0);
-    assert_eq!(rt; many(&keeper.runs), Some(40));
-    if let Some(keys) = &keeper.runs {
-        assert_eq!(rt; are_distinct(keys), true);
-    }
+    assert_eq!(rt; desk.bench.passes.hand.len(), 0);
+    assert_eq!(rt; desk.counts().0, Some(40));
+    assert!(rt; desk.ran_each_once());
     Ok(())
+}
+
+/// How a turn comes out whose runner stops at its first job.
+fn stopped<R: Wait>(rt: &R, desk: &mut Desk) -> Turned
+    requires own { AreOf desk.old.bench.mgr desk.old.bench.queue desk.old.bench.passes }
+    requires stop { desk.old.keeper.stopped ≡ None }
+{
+    desk.keeper.stops = true;
+    take_turn(rt, &mut desk.bench, &mut desk.keeper)
 }
 
 #[test]
 fn a_runner_that_stops_ends_the_turn_and_is_given_the_jobs_behind(
     rt: HostRuntime,
 ) -> Result<(), Fail> {
-    let mut bench = bench_of(rt.alloc(), 8)?;
-    let mut keeper = keeper_of(rt.alloc(), 8)?;
-    let (first, second) = plan_both(&rt, &mut bench, &mut keeper)?;
-    assert_eq!(rt; done(&rt, &mut bench, &mut keeper)?, (1, 0));
-    keeper.stops = true;
-    assert_eq!(rt; take_turn(&rt, &mut bench, &mut keeper), Turned::Stop(7));
-    assert_eq!(rt;
-        (many(&keeper.runs), many(&keeper.shuts)),
-        (Some(1), Some(1))
-    );
-    assert_eq!(rt; key_at(&keeper.runs, 0) == Some(first), true);
-    assert_eq!(rt; key_at(&keeper.shuts, 0) == Some(second), true);
+    let mut desk = desk_of(rt.alloc(), 8, 8)?;
+    let (first, second) = plan_both(&rt, &mut desk.bench, &mut desk.keeper)?;
+    assert_eq!(rt; desk.turns(&rt)?, (1, 0, Some(true)));
+    assert_eq!(rt; stopped(&rt, &mut desk), Turned::Stop(7));
+    assert_eq!(rt; desk.counts(), (Some(1), Some(1)));
+    assert!(rt; desk.ran_first(first));
+    assert!(rt; desk.shut_first(second));
     Ok(())
 }
 
 #[test]
 fn a_poll_that_fails_is_a_poll_fault(rt: HostRuntime) -> Result<(), Fail> {
-    let mut bench = bench_of(rt.alloc(), 8)?;
-    let mut keeper = keeper_of(rt.alloc(), 8)?;
-    keeper.poller.fails = true;
-    assert_eq!(rt; take_turn(&rt, &mut bench, &mut keeper), Turned::PollFault);
+    let mut desk = desk_of(rt.alloc(), 8, 8)?;
+    desk.keeper.poller.fails = true;
+    let came = take_turn(&rt, &mut desk.bench, &mut desk.keeper);
+    assert_eq!(rt; came, Turned::PollFault);
     Ok(())
 }

@@ -1,14 +1,15 @@
 //! Turns over a queue that holds one event, while many descriptors are ready: no event is lost, and none runs
 //! twice.
 ghost use Rattle.std.specs.Prelude.{◌≡◌, ◌<◌, ◌^◌, [], IfOk, All, length, vec_len};
+ghost use Rattle.ready_queue.specs.Calls.{IsOf};
 ghost use Rattle.event_mgr.specs.Manager.{IsOfMgr};
 ghost use Rattle.poller.specs.Scripts.{AreScripts};
 ghost use Rattle.event_tests.specs.Rows.{ServesRow};
 
-use crate::tests::set_up::{accept, open, step};
-use crate::{Book, Job, Row, new_row, turn_row};
+use crate::tests::set_up::{Net, Shop, net_of, open, shop_of, step};
+use crate::{Book, Job, Row, turn_row};
 use event_mgr::{EventManager, MgrPass};
-use poller::{AddOut, MemLink, MemListener, MemNet, MemPoller, Poller, Reports, Script};
+use poller::{AddOut, MemLink, MemPoller, Poller, Script};
 use ready_queue::ReadyQueue;
 use reg_keys::Dir;
 use std::alloc::{AllocError, Global};
@@ -64,29 +65,48 @@ fn register<R: Wait>(
     }
 }
 
-/// Accepts this many links and registers a job for each. It answers the links, which leave their poller when
-/// they are dropped, and the numbers of the keys.
+/// Accepts this many links.
+fn accept_all<R: Wait>(rt: &R, alloc: Global, net: &mut Net) -> Result<Vec<MemLink>, Fail> {
+    let mut links = Vec::with_capacity(alloc, READY)?;
+    for _ in 0..READY {
+        links.push(net.accepts(rt)?)?;
+    }
+    Ok(links)
+}
+
+/// Registers a job for each link. It answers the numbers of the keys.
 fn register_all<R: Wait>(
     rt: &R,
     alloc: Global,
     mgr: &EventManager<Job>,
     pass: &mut MgrPass<Job>,
-    listener: &mut MemListener,
     poller: &mut MemPoller,
-    reports: &mut Reports,
-) -> Result<(Vec<MemLink>, Vec<u64>), Fail>
+    links: &mut Vec<MemLink>,
+) -> Result<Vec<u64>, Fail>
     requires { IsOfMgr mgr.now pass.old }
     ensures { IsOfMgr mgr.now pass.new }
 {
-    let mut links = Vec::with_capacity(alloc, READY)?;
     let mut keys = Vec::with_capacity(alloc, READY)?;
-    for _ in 0..READY {
-        links.push(accept(rt, listener, poller, reports)?)?;
-    }
     for link in links.iter_mut() {
         keys.push(register(rt, mgr, pass, poller, link)?)?;
     }
-    Ok((links, keys))
+    Ok(keys)
+}
+
+/// A net of as many links as become ready, whose poller has the listener.
+fn net_of_many<R: Wait>(rt: &R, alloc: Global, shop: &mut Shop) -> Result<Net, Fail>
+    requires pass { IsOfMgr shop.old.mgr shop.old.pass }
+    requires place { IsOf shop.old.queue shop.old.place }
+    ensures pass { IsOfMgr shop.new.mgr shop.new.pass }
+    ensures place { IsOf shop.new.queue shop.new.place }
+{
+    let mut net = net_of(alloc, empty_scripts(alloc)?)?;
+    let opening = open(rt, &shop.mgr, &mut shop.pass)?;
+    if net.poller.add_listener(opening, &mut net.listener) == AddOut::Added {
+        Ok(net)
+    } else {
+        Err(Fail::from("the listener wasn't added"))
+    }
 }
 
 /// Makes the turns, and fails where one isn't done.
@@ -118,39 +138,47 @@ fn times(numbers: &[u64], number: u64) -> usize {
     count
 }
 
+/// What ran, and for which keys jobs had been registered. The links leave their poller where they are dropped.
+#[derive(Drop)]
+struct Turned {
+    book: Book,
+    keys: Vec<u64>,
+}
+
+/// Registers a job for each of many links, and turns until all must have run.
+fn turn_all<R: Wait>(rt: &R, alloc: Global, shop: &mut Shop) -> Result<Turned, Fail>
+    requires pass { IsOfMgr shop.old.mgr shop.old.pass }
+    requires place { IsOf shop.old.queue shop.old.place }
+{
+    let mut net = net_of_many(rt, alloc, shop)?;
+    let mut links = accept_all(rt, alloc, &mut net)?;
+    let keys = register_all(
+        rt,
+        alloc,
+        &shop.mgr,
+        &mut shop.pass,
+        &mut net.poller,
+        &mut links,
+    )?;
+    let book = Book::new(alloc, READY, READY + 1)?;
+    let mut row = shop.row(alloc, net.poller, book)?;
+    make_turns(rt, &shop.mgr, &shop.queue, &mut row)?;
+    Ok(Turned {
+        book: row.kit.book,
+        keys,
+    })
+}
+
 #[test]
 fn each_of_many_keys_runs_once_where_the_queue_holds_one_event(
     rt: HostRuntime,
 ) -> Result<(), Fail> {
-    let alloc = rt.alloc();
-    let (mgr, mut pass) = EventManager::<Job>::new(alloc)?;
-    let (queue, queue_pass) = ReadyQueue::new(alloc, 1)?;
-    let mut reports = Reports::new(alloc)?;
-    let (mut listener, mut pollers) = MemNet::new(alloc, empty_scripts(alloc)?, 1)?;
-    let Some(mut poller) = pollers.pop() else {
-        return Err(Fail::from("no poller"));
-    };
-    let listening = open(&rt, &mgr, &mut pass)?;
-    assert_eq!(rt;
-        poller.add_listener(listening, &mut listener),
-        AddOut::Added
-    );
-    let (_links, keys) = register_all(
-        &rt,
-        alloc,
-        &mgr,
-        &mut pass,
-        &mut listener,
-        &mut poller,
-        &mut reports,
-    )?;
-    let book = Book::new(alloc, READY, READY + 1)?;
-    let mut row = new_row(alloc, &mgr, &queue, &mut pass, queue_pass, poller, book)?;
-    make_turns(&rt, &mgr, &queue, &mut row)?;
-    assert_eq!(rt; row.kit.book.ran.len(), READY);
-    assert_eq!(rt; row.kit.book.finished.len(), READY);
-    for key in keys.as_slice() {
-        assert_eq!(rt; times(row.kit.book.ran.as_slice(), *key), 1);
+    let mut shop = shop_of(rt.alloc(), 1)?;
+    let turned = turn_all(&rt, rt.alloc(), &mut shop)?;
+    assert_eq!(rt; turned.book.ran.len(), READY);
+    assert_eq!(rt; turned.book.finished.len(), READY);
+    for key in turned.keys.as_slice() {
+        assert_eq!(rt; times(turned.book.ran.as_slice(), *key), 1);
     }
     Ok(())
 }

@@ -6,12 +6,12 @@ ghost use Rattle.event_mgr.specs.Manager.{IsOfMgr};
 ghost use Rattle.poller.specs.Scripts.{AreScripts};
 ghost use Rattle.event_tests.specs.Rows.{ServesRow};
 
-use crate::tests::set_up::{accept, open, step};
-use crate::{Book, Finish, Job, LAST, Row, new_row, serve_on};
+use crate::tests::set_up::{Net, Shop, only, open, shop_of, step};
+use crate::{Book, Finish, Job, LAST, Row, serve_on};
 use event_mgr::{EventManager, MgrPass};
-use poller::{AddOut, MemListener, MemNet, MemPoller, Poller, Reports, Script};
+use poller::{AddOut, MemLink, MemNet, MemPoller, Poller, Reports, Script};
 use ready_queue::{PutOut, QPass, ReadyQueue};
-use reg_keys::{Dir, Opening};
+use reg_keys::{Dir, Event, Opening};
 use std::alloc::{AllocError, Global};
 use std::sync::Wait;
 use std::test::Fail;
@@ -50,35 +50,39 @@ fn scripts(alloc: Global) -> Result<Vec<Script>, AllocError>
     Ok(scripts)
 }
 
-/// Accepts a connection, adds it to a poller, and registers its first job without a mark, so that an event is
-/// named at once. The event is put into the queue.
-fn begin<R: Wait>(
-    rt: &R,
-    mgr: &EventManager<Job>,
-    queue: &ReadyQueue,
-    pass: &mut MgrPass<Job>,
-    place: &mut QPass,
-    listener: &mut MemListener,
-    poller: &mut MemPoller,
-    reports: &mut Reports,
-) -> Result<(), Fail>
-    requires pass { IsOfMgr mgr.now pass.old }
-    requires place { IsOf queue.now place.old }
-    ensures pass { IsOfMgr mgr.now pass.new }
-    ensures place { IsOf queue.now place.new }
-{
-    let mut link = accept(rt, listener, poller, reports)?;
-    let opening = open(rt, mgr, pass)?;
-    if poller.add(opening, &mut link) != AddOut::Added {
-        return Err(Fail::from("the link wasn't added"));
-    }
-    let job = Job {
+/// A job that was never run.
+fn first_job(opening: Opening, link: MemLink) -> Job {
+    Job {
         opening,
         number: 0,
         mark: 0,
         link: Some(link),
         read: 0,
-    };
+    }
+}
+
+/// Puts an event into the queue.
+fn put<R: Wait>(rt: &R, queue: &ReadyQueue, place: &mut QPass, event: Event) -> Result<(), Fail>
+    requires { IsOf queue.now place.old }
+    ensures { IsOf queue.now place.new }
+{
+    match queue.put(rt, place, event) {
+        PutOut::Put => Ok(()),
+        PutOut::Full(_) => Err(Fail::from("the queue is full")),
+    }
+}
+
+/// Registers a job without a mark, so that an event is named at once. It answers the event.
+fn register<R: Wait>(
+    rt: &R,
+    mgr: &EventManager<Job>,
+    pass: &mut MgrPass<Job>,
+    job: Job,
+) -> Result<Event, Fail>
+    requires { IsOfMgr mgr.now pass.old }
+    ensures { IsOfMgr mgr.now pass.new }
+{
+    let opening = job.opening;
     let RegisterReply::Waits(_, Some(event)) = mgr.register(
         rt,
         pass,
@@ -89,10 +93,29 @@ fn begin<R: Wait>(
     ) else {
         return Err(Fail::from("no event was named"));
     };
-    match queue.put(rt, place, event) {
-        PutOut::Put => Ok(()),
-        PutOut::Full(_) => Err(Fail::from("the queue is full")),
+    Ok(event)
+}
+
+/// Adds a link to a poller under a new opening, and registers its first job. The event is put into the queue.
+fn begin<R: Wait>(
+    rt: &R,
+    shop: &mut Shop,
+    link: MemLink,
+    poller: &mut MemPoller,
+) -> Result<(), Fail>
+    requires pass { IsOfMgr shop.old.mgr shop.old.pass }
+    requires place { IsOf shop.old.queue shop.old.place }
+    ensures pass { IsOfMgr shop.new.mgr shop.new.pass }
+    ensures place { IsOf shop.new.queue shop.new.place }
+{
+    let mut link = link;
+    let opening = open(rt, &shop.mgr, &mut shop.pass)?;
+    if poller.add(opening, &mut link) != AddOut::Added {
+        return Err(Fail::from("the link wasn't added"));
     }
+    let job = first_job(opening, link);
+    let event = register(rt, &shop.mgr, &mut shop.pass, job)?;
+    put(rt, &shop.queue, &mut shop.place, event)
 }
 
 /// All connections that were finished.
@@ -137,51 +160,41 @@ fn times(finishes: &[Finish], opening: Opening) -> u64 {
     count
 }
 
-/// Begins this many connections, with the two pollers in turn.
+/// Begins the connections, half of them with this poller beside the net's own.
 fn begin_all<R: Wait>(
     rt: &R,
-    alloc: Global,
-    mgr: &EventManager<Job>,
-    queue: &ReadyQueue,
-    pass: &mut MgrPass<Job>,
-    place: &mut QPass,
-) -> Result<(MemPoller, MemPoller), Fail>
-    requires pass { IsOfMgr mgr.now pass.old }
-    requires place { IsOf queue.now place.old }
-    ensures pass { IsOfMgr mgr.now pass.new }
-    ensures place { IsOf queue.now place.new }
+    shop: &mut Shop,
+    net: &mut Net,
+    second: &mut MemPoller,
+) -> Result<(), Fail>
+    requires pass { IsOfMgr shop.old.mgr shop.old.pass }
+    requires place { IsOf shop.old.queue shop.old.place }
+    ensures pass { IsOfMgr shop.new.mgr shop.new.pass }
+    ensures place { IsOf shop.new.queue shop.new.place }
 {
-    let mut reports = Reports::new(alloc)?;
-    let (mut listener, mut pollers) = MemNet::new(alloc, scripts(alloc)?, 2)?;
-    let Some(mut first) = pollers.pop() else {
-        return Err(Fail::from("no poller"));
-    };
-    let Some(mut second) = pollers.pop() else {
-        return Err(Fail::from("no second poller"));
-    };
     for _ in 0..LINKS / 2 {
-        begin(
-            rt,
-            mgr,
-            queue,
-            pass,
-            place,
-            &mut listener,
-            &mut first,
-            &mut reports,
-        )?;
-        begin(
-            rt,
-            mgr,
-            queue,
-            pass,
-            place,
-            &mut listener,
-            &mut second,
-            &mut reports,
-        )?;
+        let link = net.accepts(rt)?;
+        begin(rt, shop, link, &mut net.poller)?;
+        let link = net.accepts(rt)?;
+        begin(rt, shop, link, second)?;
     }
-    Ok((first, second))
+    Ok(())
+}
+
+/// A net of the connections' scripts, and a second poller.
+fn net_of_two(alloc: Global) -> Result<(Net, MemPoller), Fail> {
+    let (listener, mut pollers) = MemNet::new(alloc, scripts(alloc)?, 2)?;
+    let second = only(&mut pollers)?;
+    let poller = only(&mut pollers)?;
+    let reports = Reports::new(alloc)?;
+    Ok((
+        Net {
+            listener,
+            poller,
+            reports,
+        },
+        second,
+    ))
 }
 
 /// A book with room for one connection more than there are, and for all their runs.
@@ -210,28 +223,63 @@ fn push_row(
     Ok(())
 }
 
+/// Two rows, one with each poller.
+fn rows_of(
+    alloc: Global,
+    shop: &mut Shop,
+    first: MemPoller,
+    second: MemPoller,
+) -> Result<Vec<Row>, Fail>
+    requires pass { IsOfMgr shop.old.mgr shop.old.pass }
+    requires place { IsOf shop.old.queue shop.old.place }
+    ensures rows { IfOk result
+        (λ rows. All (λ row. ServesRow shop.new.mgr shop.new.queue row.pass row.kit.book) rows.items) }
+{
+    let one = shop.row(alloc, first, book(alloc)?)?;
+    let two = shop.row(alloc, second, book(alloc)?)?;
+    let mut rows = Vec::with_capacity(alloc, 2)?;
+    push_row(&shop.mgr, &shop.queue, &mut rows, one)?;
+    push_row(&shop.mgr, &shop.queue, &mut rows, two)?;
+    Ok(rows)
+}
+
+/// Whether no run was given an old mark.
+fn none_is_stale(rows: &[Row]) -> bool {
+    rows.iter().all(|row| row.kit.book.stale == 0)
+}
+
+/// Whether each of these read its whole input, ran not too often, and is there once.
+fn are_whole(finishes: &[Finish]) -> bool {
+    for finish in finishes {
+        if finish.read != STEPS as u64 || finish.number >= LAST {
+            return false;
+        }
+        if times(finishes, finish.opening) != 1 {
+            return false;
+        }
+    }
+    true
+}
+
+/// The connections that two dispatchers finish.
+fn served<R: Threads + Wait + Sync>(rt: &R, alloc: Global) -> Result<Vec<Row>, Fail> {
+    let mut shop = shop_of(alloc, 8)?;
+    let (mut net, mut second) = net_of_two(alloc)?;
+    begin_all(rt, &mut shop, &mut net, &mut second)?;
+    let mut rows = rows_of(alloc, &mut shop, net.poller, second)?;
+    if serve_all(rt, alloc, &shop.mgr, &shop.queue, &mut rows)? {
+        Ok(rows)
+    } else {
+        Err(Fail::from("not all connections were finished"))
+    }
+}
+
 #[test]
 fn two_dispatchers_finish_each_connection_once(rt: HostRuntime) -> Result<(), Fail> {
-    let alloc = rt.alloc();
-    let (mgr, mut pass) = EventManager::<Job>::new(alloc)?;
-    let (queue, mut place) = ReadyQueue::new(alloc, 8)?;
-    let (first, second) = begin_all(&rt, alloc, &mgr, &queue, &mut pass, &mut place)?;
-    let other = queue.split(&mut place)?;
-    let one = new_row(alloc, &mgr, &queue, &mut pass, place, first, book(alloc)?)?;
-    let two = new_row(alloc, &mgr, &queue, &mut pass, other, second, book(alloc)?)?;
-    let mut rows = Vec::with_capacity(alloc, 2)?;
-    push_row(&mgr, &queue, &mut rows, one)?;
-    push_row(&mgr, &queue, &mut rows, two)?;
-    assert!(rt; serve_all(&rt, alloc, &mgr, &queue, &mut rows)?);
-    for row in &rows {
-        assert_eq!(rt; row.kit.book.stale, 0);
-    }
-    let finishes = finished(alloc, &rows)?;
+    let rows = served(&rt, rt.alloc())?;
+    assert!(rt; none_is_stale(&rows));
+    let finishes = finished(rt.alloc(), &rows)?;
     assert_eq!(rt; finishes.len(), LINKS);
-    for finish in &finishes {
-        assert_eq!(rt; finish.read, STEPS as u64);
-        assert!(rt; finish.number < LAST);
-        assert_eq!(rt; times(&finishes, finish.opening), 1);
-    }
+    assert!(rt; are_whole(&finishes));
     Ok(())
 }

@@ -6,14 +6,14 @@ ghost use Rattle.dispatcher.specs.Turns.{AreOf};
 ghost use Rattle.poller.specs.Polls.{HasToken};
 ghost use Rattle.event_tests.specs.Rows.{ServesRow};
 
-use crate::tests::set_up::{accept, open, worked_script};
-use crate::{Book, Job, Row, new_row, turn_row};
+use crate::tests::set_up::{Shop, net_of, open, shop_of, worked_script};
+use crate::{Book, Job, Row, turn_row};
 use dispatcher::DispPass;
 use event_mgr::{CloseOut, EventManager, MgrPass};
 use fd_wait::{WaitOut, wait};
 use outside::{Link, ReadOut};
-use poller::{AddOut, MemLink, MemNet, MemPoller, Poller, Reports};
-use ready_queue::{QPass, ReadyQueue};
+use poller::{AddOut, MemLink, MemPoller, Poller};
+use ready_queue::ReadyQueue;
 use reg_keys::{Dir, Opening};
 use std::alloc::Global;
 use std::sync::Wait;
@@ -175,57 +175,73 @@ fn worked_link<R: Wait>(
 ) -> Result<(MemLink, MemPoller), Fail>
     requires { HasToken opening }
 {
-    let mut reports = Reports::new(alloc)?;
-    let (mut listener, mut pollers) = MemNet::new(alloc, worked_script(alloc)?, 1)?;
-    let Some(mut poller) = pollers.pop() else {
-        return Err(Fail::from("no poller"));
-    };
-    let mut link = accept(rt, &mut listener, &mut poller, &mut reports)?;
-    if poller.add(opening, &mut link) != AddOut::Added {
+    let mut net = net_of(alloc, worked_script(alloc)?)?;
+    let mut link = net.accepts(rt)?;
+    if net.poller.add(opening, &mut link) != AddOut::Added {
         return Err(Fail::from("the link wasn't added"));
     }
     if link.read(&mut [0u8; 4]) != ReadOut::NotYet {
         return Err(Fail::from("a read before any report"));
     }
-    Ok((link, poller))
+    Ok((link, net.poller))
 }
 
-/// The passes of one more thread.
-fn further(
-    alloc: Global,
-    mgr: &EventManager<Job>,
-    queue: &ReadyQueue,
-    pass: &mut MgrPass<Job>,
-    place: &mut QPass,
-) -> Result<DispPass<Job>, Fail>
-    requires pass { IsOfMgr mgr.now pass.old }
-    requires place { IsOf queue.now place.old }
-    ensures pass { IsOfMgr mgr.now pass.new }
-    ensures place { IsOf queue.now place.new }
-    ensures further { IfOk result (λ p. AreOf mgr.now queue.now p) }
+/// An opening that is waited for: the thread that waits, the row that is turned, and the link, which leaves its
+/// poller where it is dropped.
+#[derive(Drop)]
+struct Scene {
+    opening: Opening,
+    link: MemLink,
+    waiter: DispPass<Job>,
+    row: Row,
+}
+
+/// The scene of a shop.
+fn scene_of<R: Wait>(rt: &R, alloc: Global, shop: &mut Shop) -> Result<Scene, Fail>
+    requires pass { IsOfMgr shop.old.mgr shop.old.pass }
+    requires place { IsOf shop.old.queue shop.old.place }
+    ensures pass { IsOfMgr shop.new.mgr shop.new.pass }
+    ensures waiter { IfOk result (λ s. AreOf shop.new.mgr shop.new.queue s.waiter) }
+    ensures row { IfOk result (λ s. ServesRow shop.new.mgr shop.new.queue s.row.pass s.row.kit.book) }
 {
-    let own = mgr.split(alloc, pass)?;
-    let own_place = queue.split(place)?;
-    Ok(DispPass::new(alloc, own, own_place)?)
+    let opening = open(rt, &shop.mgr, &mut shop.pass)?;
+    let (link, poller) = worked_link(rt, alloc, opening)?;
+    let waiter = shop.further(alloc)?;
+    let row = shop.row(alloc, poller, Book::new(alloc, 1, 1)?)?;
+    Ok(Scene {
+        opening,
+        link,
+        waiter,
+        row,
+    })
+}
+
+/// How the wait of a scene comes out, and whether no limit was reached.
+fn play<R: Threads + Wait + Sync>(rt: &R, shop: &Shop, scene: Scene) -> (Came, bool)
+    requires waiter { AreOf shop.now.mgr shop.now.queue scene.waiter }
+    requires row { ServesRow shop.now.mgr shop.now.queue scene.row.pass scene.row.kit.book }
+{
+    let Scene {
+        opening,
+        link: _link,
+        waiter,
+        row,
+    } = scene;
+    let over = AtomicBool::new(false);
+    wait_while_turning(rt, &shop.mgr, &shop.queue, waiter, row, opening, &over)
 }
 
 #[test]
 fn a_wait_is_ready_after_a_report(rt: HostRuntime) -> Result<(), Fail> {
-    let alloc = rt.alloc();
-    let (mgr, mut pass) = EventManager::<Job>::new(alloc)?;
-    let (queue, mut place) = ReadyQueue::new(alloc, 4)?;
-    let opening = open(&rt, &mgr, &mut pass)?;
-    let (_link, poller) = worked_link(&rt, alloc, opening)?;
-    let waiter = further(alloc, &mgr, &queue, &mut pass, &mut place)?;
-    let book = Book::new(alloc, 1, 1)?;
-    let row = new_row(alloc, &mgr, &queue, &mut pass, place, poller, book)?;
-    let over = AtomicBool::new(false);
-    let (came, within) = wait_while_turning(&rt, &mgr, &queue, waiter, row, opening, &over);
+    let mut shop = shop_of(rt.alloc(), 4)?;
+    let scene = scene_of(&rt, rt.alloc(), &mut shop)?;
+    let number = scene.opening.number;
+    let (came, within) = play(&rt, &shop, scene);
     assert!(rt; within);
     let Came::Ready(mark) = came else {
         return Err(Fail::from("the wait wasn't ready"));
     };
-    assert!(rt; mark > opening.number);
+    assert!(rt; mark > number);
     Ok(())
 }
 
@@ -239,20 +255,38 @@ fn is_one_end(came: Came, opening: Opening) -> bool {
     }
 }
 
+/// The same with one more thread, which closes the opening. It answers whether it was open, too.
+fn play_and_close<R: Threads + Wait + Sync>(
+    rt: &R,
+    shop: Shop,
+    scene: Scene,
+) -> ((Came, bool), bool)
+    requires pass { IsOfMgr shop.mgr shop.pass }
+    requires waiter { AreOf shop.mgr shop.queue scene.waiter }
+    requires row { ServesRow shop.mgr shop.queue scene.row.pass scene.row.kit.book }
+{
+    let Shop {
+        mgr,
+        queue,
+        pass,
+        place: _place,
+    } = shop;
+    let Scene {
+        opening,
+        link: _link,
+        waiter,
+        row,
+    } = scene;
+    let over = AtomicBool::new(false);
+    wait_while_turning_and_closing(rt, &mgr, &queue, waiter, row, pass, opening, &over)
+}
+
 #[test]
 fn a_wait_ends_while_others_turn_and_close(rt: HostRuntime) -> Result<(), Fail> {
-    let alloc = rt.alloc();
-    let (mgr, mut pass) = EventManager::<Job>::new(alloc)?;
-    let (queue, mut place) = ReadyQueue::new(alloc, 1)?;
-    let opening = open(&rt, &mgr, &mut pass)?;
-    let (_link, poller) = worked_link(&rt, alloc, opening)?;
-    let waiter = further(alloc, &mgr, &queue, &mut pass, &mut place)?;
-    let book = Book::new(alloc, 1, 1)?;
-    let row = new_row(alloc, &mgr, &queue, &mut pass, place, poller, book)?;
-    let over = AtomicBool::new(false);
-    let ((came, within), closed) = wait_while_turning_and_closing(
-        &rt, &mgr, &queue, waiter, row, pass, opening, &over,
-    );
+    let mut shop = shop_of(rt.alloc(), 1)?;
+    let scene = scene_of(&rt, rt.alloc(), &mut shop)?;
+    let opening = scene.opening;
+    let ((came, within), closed) = play_and_close(&rt, shop, scene);
     assert!(rt; within);
     assert!(rt; closed);
     assert!(rt; is_one_end(came, opening));

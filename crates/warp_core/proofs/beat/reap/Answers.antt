@@ -4,14 +4,14 @@ use Rattle.warp_passes.specs.Own.{entries_of}
 use Rattle.dispatcher.specs.Laws.{all_grown_same, grown_same}
 use Rattle.turn_cell.specs.Calls.{view_of}
 use Rattle.event_mgr.specs.Manager.{mgr_view}
-use Rattle.warp_core.proofs.Serving.{goes_by}
+use Rattle.warp_core.proofs.Serving.{goes_aside}
 use Rattle.warp_core.proofs.beat.reap.Goals as goal
 
 pub returns-in-Reaped-clause-goes_on : goal.returns-in-Reaped-clause-goes_on
 returns-in-Reaped-clause-goes_on g c =
     let x = c.args.row.now in
     let y = record x { runner = record x.runner { cached = c.reap_once-out.new.pass } } in
-    goes_by x y (all_grown_same (mgr_view x.disp.mgr)) (record {
+    goes_aside x y (all_grown_same (mgr_view x.disp.mgr)) refl (record {
       cached = c.reap_once-out.ensures.cached.adds.grown;
       tallied = grown_same (view_of x.runner.tallied);
     }) refl
@@ -20,7 +20,7 @@ pub returns-in-Spent-clause-goes_on : goal.returns-in-Spent-clause-goes_on
 returns-in-Spent-clause-goes_on g c =
     let x = c.args.row.now in
     let y = record x { runner = record x.runner { cached = c.reap_once-out.new.pass } } in
-    goes_by x y (all_grown_same (mgr_view x.disp.mgr)) (record {
+    goes_aside x y (all_grown_same (mgr_view x.disp.mgr)) refl (record {
       cached = c.reap_once-out.ensures.cached.adds.grown;
       tallied = grown_same (view_of x.runner.tallied);
     }) refl

@@ -7,7 +7,7 @@ use Rattle.warp_runner.specs.Acts.{told_of}
 use Rattle.warp_runner.specs.Journal.{FitsUntil}
 use Rattle.warp_core.specs.Rows.{known_by, stop_in}
 use Rattle.warp_core.proofs.Keeping.{keeps_silent}
-use Rattle.warp_core.proofs.Serving.{cells_of, goes_by, made_grown, serves_on}
+use Rattle.warp_core.proofs.Serving.{cells_of, goes_aside, made_grown, serves_on}
 use Rattle.warp_core.proofs.beat.sweep.Goals as goal
 
 pub returns-in-Some-clause-serves : goal.returns-in-Some-clause-serves
@@ -26,7 +26,7 @@ returns-in-Some-clause-goes_on g c =
     let x = c.args.row.now in
     let e = c.sweep.ensures in
     let y = record x { disp = record x.disp { mgr = c.sweep.new.pass }; runner = c.sweep.new.self } in
-    goes_by x y (made_grown (mgr_view x.disp.mgr) [] (mgr_view c.sweep.new.pass) e.made) e.stays.0 e.same.1
+    goes_aside x y (made_grown (mgr_view x.disp.mgr) [] (mgr_view c.sweep.new.pass) e.made) refl e.stays.0 e.same.1
 
 pub returns-in-Some-clause-may_halt : goal.returns-in-Some-clause-may_halt
 returns-in-Some-clause-may_halt g c =
@@ -56,7 +56,7 @@ returns-in-None-clause-goes_on g c =
     let x = c.args.row.now in
     let e = c.sweep.ensures in
     let y = record x { disp = record x.disp { mgr = c.sweep.new.pass }; runner = c.sweep.new.self } in
-    goes_by x y (made_grown (mgr_view x.disp.mgr) [] (mgr_view c.sweep.new.pass) e.made) e.stays.0 e.same.1
+    goes_aside x y (made_grown (mgr_view x.disp.mgr) [] (mgr_view c.sweep.new.pass) e.made) refl e.stays.0 e.same.1
 
 pub sweep-requires-clause-mgr : goal.sweep-requires-clause-mgr
 sweep-requires-clause-mgr g c = c.requires.own.passes.disp.0

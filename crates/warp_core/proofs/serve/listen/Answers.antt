@@ -1,4 +1,4 @@
-use Rattle.std.proofs.Common.{[], ◌∷◌, length, ap, subst, arith}
+use Rattle.std.proofs.Common.{[], ◌∷◌, length, refl, ap, subst, arith}
 use Rattle.std.specs.Prelude.{None, Option}
 use Rattle.std.specs.Option.{option_to_list}
 use Rattle.reg_keys.specs.declared.event.EventName.{EventName}
@@ -10,7 +10,7 @@ use Rattle.warp_runner.specs.Acts.{told_of}
 use Rattle.warp_runner.specs.Runs.{begun_by}
 use Rattle.warp_core.specs.Rows.{known_by}
 use Rattle.warp_core.proofs.Keeping.{keeps_called, keeps_silent}
-use Rattle.warp_core.proofs.Serving.{cells_of, goes_by, goes_then, made_grown, serves_with}
+use Rattle.warp_core.proofs.Serving.{cells_of, goes_aside, goes_then, made_grown, serves_with}
 use Rattle.warp_core.proofs.Halting.{halts_as}
 use Rattle.warp_core.proofs.serve.listen.Goals as goal
 
@@ -76,9 +76,9 @@ returns-in-Ok-None-clause-goes_on g c =
       runner = c.begin_listening.new.self;
       halted = None;
     } in
-    goes_by x y
+    goes_aside x y
     (made_grown (mgr_view x.disp.mgr) (begun_by c.begin_listening.result)
-    (mgr_view c.begin_listening.new.pass) e.made) e.stays.0 e.same.1
+    (mgr_view c.begin_listening.new.pass) e.made) refl e.stays.0 e.same.1
 
 pub returns-in-Ok-Some-clause-serves : goal.returns-in-Ok-Some-clause-serves
 returns-in-Ok-Some-clause-serves g c =
@@ -106,9 +106,9 @@ returns-in-Ok-Some-clause-goes_on g c =
       runner = c.begin_listening.new.self;
       halted = None;
     } in
-    goes_by x y
+    goes_aside x y
     (made_grown (mgr_view x.disp.mgr) (begun_by c.begin_listening.result)
-    (mgr_view c.begin_listening.new.pass) e.made) e.stays.0 e.same.1
+    (mgr_view c.begin_listening.new.pass) e.made) refl e.stays.0 e.same.1
 
 pub returns-in-Err-clause-serves : goal.returns-in-Err-clause-serves
 returns-in-Err-clause-serves g c = c.halt.ensures.serves
@@ -123,6 +123,6 @@ returns-in-Err-clause-goes_on g c =
       halted = None;
     } in
     goes_then x y c.halt.new.row
-    (goes_by x y (made_grown (mgr_view x.disp.mgr) (begun_by c.begin_listening.result)
-    (mgr_view c.begin_listening.new.pass) e.made) e.stays.0 e.same.1)
+    (goes_aside x y (made_grown (mgr_view x.disp.mgr) (begun_by c.begin_listening.result)
+    (mgr_view c.begin_listening.new.pass) e.made) refl e.stays.0 e.same.1)
     c.halt.ensures.goes_on

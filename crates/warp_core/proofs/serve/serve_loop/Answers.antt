@@ -1,4 +1,4 @@
-use Rattle.std.proofs.Common.{rules, ◌≡◌, ◌<◌, ◌≤◌, [], ◌∷◌, ◌++◌, length, map, take, drop, sym, ap, ◌∙◌}
+use Rattle.std.proofs.Common.{rules, ◌≡◌, [], ◌++◌, length, take, drop, sym, ap}
 use Rattle.std.proofs.Common.{subst, arith}
 use Rattle.std.specs.Prelude.{All, get_or}
 use Rattle.std.specs.Arc.{arc_value}
@@ -6,7 +6,7 @@ use Rattle.std.proofs.lemmas.List.{length-map}
 use Rattle.level.specs.ListLaws.{whole_slice}
 use Rattle.warp_passes.specs.Cells.{SeatsAreOnce}
 use Rattle.warp_passes.specs.Levels.{AreNewPasses}
-use Rattle.warp_passes.specs.Passes.{AreOf, lawful_of, pass_view}
+use Rattle.warp_passes.specs.Passes.{lawful_of, pass_view}
 use Rattle.warp_core.specs.Making.{HasParts}
 use Rattle.warp_core.specs.Rows.{Serves, known_by, passes_of}
 use Rattle.warp_core.proofs.Apart.{caused_apart, explained_apart, served_count, served_ends, served_level}
@@ -134,7 +134,8 @@ returns-clause-events g c =
     let serve = subst (λ z. All (λ row. Serves told faults z row) ws) c.deref.ensures
     c.listen_and_serve-end.ensures.serve.0 in
     let own = served_own told faults s c.args.limit ws passes kits parts serve in
-    all_placed pass_view (c.level_passes_add_up.ensures pass_view) c.legal_stripes_happen_once.ensures passes
+    all_placed pass_view (c.level_passes_add_up.ensures pass_view) c.legal_stripes_happen_once.ensures
+    c.histories_are_first_in_first_out.ensures passes
     (λ k d lt. lawful_of s (get_or passes k d) (own k d lt))
     (served_level told faults s c.args.limit ws passes kits parts c.listen_and_serve-end.ensures.level)
     (served_events told faults s c.args.limit ws passes kits parts serve)

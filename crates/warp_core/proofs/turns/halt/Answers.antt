@@ -6,7 +6,7 @@ use Rattle.dispatcher.specs.Laws.{all_grown_same}
 use Rattle.warp_runner.specs.Journal.{FitsUntil}
 use Rattle.warp_core.specs.declared.row.Halted.{Halted}
 use Rattle.warp_core.specs.declared.row.Halted.TheVariants as Halts
-use Rattle.warp_core.proofs.Serving.{cells_of, goes_by, serves_with, stop_noted}
+use Rattle.warp_core.proofs.Serving.{cells_of, goes_aside, serves_with, stop_noted}
 use Rattle.warp_core.specs.Rows.{stop_in, told_by}
 use Rattle.warp_core.proofs.turns.halt.Goals as goal
 
@@ -34,7 +34,7 @@ returns-in-PollFault-clause-goes_on g c =
     let x = c.args.row.now in
     let e = c.note_stop.ensures in
     let y = record x { runner = c.note_stop.new.self; halted = Some Halts.PollFault } in
-    goes_by x y (all_grown_same (mgr_view x.disp.mgr)) e.stays.0 e.same.1
+    goes_aside x y (all_grown_same (mgr_view x.disp.mgr)) refl e.stays.0 e.same.1
 
 pub returns-in-Done-clause-serves : goal.returns-in-Done-clause-serves
 returns-in-Done-clause-serves g c =
@@ -63,7 +63,7 @@ returns-in-Done-clause-goes_on g c =
       runner = c.note_stop-in-WithCode.new.self;
       halted = Some (Halts.WithCode c.in-WithCode.code);
     } in
-    goes_by x y (all_grown_same (mgr_view x.disp.mgr)) e.stays.0 e.same.1
+    goes_aside x y (all_grown_same (mgr_view x.disp.mgr)) refl e.stays.0 e.same.1
 
 pub returns-in-Spent-note_stop-clause-serves : goal.returns-in-Spent-note_stop-clause-serves
 returns-in-Spent-note_stop-clause-serves g c =
@@ -81,7 +81,7 @@ returns-in-Spent-note_stop-clause-goes_on g c =
     let x = c.args.row.now in
     let e = c.note_stop-in-WithCode.ensures in
     let y = record x { runner = c.note_stop-in-WithCode.new.self; halted = Some Halts.Spent } in
-    goes_by x y (all_grown_same (mgr_view x.disp.mgr)) e.stays.0 e.same.1
+    goes_aside x y (all_grown_same (mgr_view x.disp.mgr)) refl e.stays.0 e.same.1
 
 pub note_stop-requires-in-Spent : goal.note_stop-requires-in-Spent
 note_stop-requires-in-Spent g c =
@@ -103,4 +103,4 @@ returns-in-Spent-clause-goes_on g c =
     let x = c.args.row.now in
     let e = c.note_stop-in-Spent.ensures in
     let y = record x { runner = c.note_stop-in-Spent.new.self; halted = Some Halts.Spent } in
-    goes_by x y (all_grown_same (mgr_view x.disp.mgr)) e.stays.0 e.same.1
+    goes_aside x y (all_grown_same (mgr_view x.disp.mgr)) refl e.stays.0 e.same.1

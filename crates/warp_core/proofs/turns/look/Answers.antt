@@ -2,7 +2,7 @@ use Rattle.std.proofs.Common.{[], refl, arith}
 use Rattle.event_mgr.specs.Manager.{mgr_view}
 use Rattle.dispatcher.specs.Laws.{all_grown_same}
 use Rattle.warp_core.specs.Rows.{stop_in}
-use Rattle.warp_core.proofs.Serving.{cells_of, goes_by, serves_on}
+use Rattle.warp_core.proofs.Serving.{cells_of, goes_aside, serves_on}
 use Rattle.warp_core.proofs.turns.look.Goals as goal
 
 pub look-requires : goal.look-requires
@@ -24,7 +24,7 @@ returns-in-Spent-clause-goes_on g c =
     let x = c.args.row.now in
     let e = c.look.ensures in
     let y = record x { runner = c.look.new.self } in
-    goes_by x y (all_grown_same (mgr_view x.disp.mgr)) e.stays.0 e.same.1
+    goes_aside x y (all_grown_same (mgr_view x.disp.mgr)) refl e.stays.0 e.same.1
 
 pub returns-then-all-clause-serves : goal.returns-then-all-clause-serves
 returns-then-all-clause-serves g c =
@@ -42,7 +42,7 @@ returns-then-all-clause-goes_on g c =
     let x = c.args.row.now in
     let e = c.look.ensures in
     let y = record x { runner = c.look.new.self } in
-    goes_by x y (all_grown_same (mgr_view x.disp.mgr)) e.stays.0 e.same.1
+    goes_aside x y (all_grown_same (mgr_view x.disp.mgr)) refl e.stays.0 e.same.1
 
 pub returns-else-all-clause-serves : goal.returns-else-all-clause-serves
 returns-else-all-clause-serves g c =
@@ -60,4 +60,4 @@ returns-else-all-clause-goes_on g c =
     let x = c.args.row.now in
     let e = c.look.ensures in
     let y = record x { runner = c.look.new.self } in
-    goes_by x y (all_grown_same (mgr_view x.disp.mgr)) e.stays.0 e.same.1
+    goes_aside x y (all_grown_same (mgr_view x.disp.mgr)) refl e.stays.0 e.same.1

@@ -47,7 +47,7 @@ returns-in-Done-clause-goes_on g c =
       reports = c.turn-turned.new.reports;
       halted = None;
     } in
-    goes_by x y work.grown work.kept.2 work.kept.1
+    goes_by x y work.grown c.in-Done.ensures.turned.events.queue work.kept.2 work.kept.1
 
 pub returns-in-PollFault-clause-serves : goal.returns-in-PollFault-clause-serves
 returns-in-PollFault-clause-serves g c =
@@ -76,7 +76,7 @@ returns-in-PollFault-clause-goes_on g c =
       reports = c.turn-turned.new.reports;
       halted = None;
     } in
-    goes_by x y work.grown work.kept.2 work.kept.1
+    goes_by x y work.grown c.in-PollFault.ensures.turned.events.queue work.kept.2 work.kept.1
 
 pub returns-in-Stop-clause-serves : goal.returns-in-Stop-clause-serves
 returns-in-Stop-clause-serves g c =
@@ -105,7 +105,7 @@ returns-in-Stop-clause-goes_on g c =
       reports = c.turn-turned.new.reports;
       halted = None;
     } in
-    goes_by x y work.grown work.kept.2 work.kept.1
+    goes_by x y work.grown c.in-Stop.ensures.turned.queue work.kept.2 work.kept.1
 
 pub returns-in-Spent-clause-serves : goal.returns-in-Spent-clause-serves
 returns-in-Spent-clause-serves g c =
@@ -134,7 +134,7 @@ returns-in-Spent-clause-goes_on g c =
       reports = c.turn-turned.new.reports;
       halted = None;
     } in
-    goes_by x y work.grown work.kept.2 work.kept.1
+    goes_by x y work.grown c.in-Spent.ensures.turned.0.queue work.kept.2 work.kept.1
 
 pub returns-in-PollFault-clause-may_halt : goal.returns-in-PollFault-clause-may_halt
 returns-in-PollFault-clause-may_halt g c = record {

@@ -2,7 +2,7 @@ use Rattle.std.proofs.Common.{refl}
 use Rattle.fd_cache.specs.History.{IsCacheHistory}
 use Rattle.fd_cache.specs.Represents.{past_of}
 use Rattle.warp_tally.specs.Tallies.{tally_past, IsTallyPast}
-use Rattle.warp_core.proofs.Seen.{shared_from, shared_to, passes_shared}
+use Rattle.warp_passes.specs.Laws.{shared_from, shared_to, passes_shared}
 use Rattle.warp_core.proofs.sharing.RowShareRow.share_row.Goals as goal
 
 pub share-requires-clause-from : goal.share-requires-clause-from
@@ -10,6 +10,12 @@ share-requires-clause-from g c = c.requires.from.passes.disp.0
 
 pub share-requires-clause-to : goal.share-requires-clause-to
 share-requires-clause-to g c = c.requires.to.passes.disp.0
+
+pub tell_queue-requires-clause-from : goal.tell_queue-requires-clause-from
+tell_queue-requires-clause-from g c = c.requires.from.passes.disp.1
+
+pub tell_queue-requires-clause-to : goal.tell_queue-requires-clause-to
+tell_queue-requires-clause-to g c = c.requires.to.passes.disp.1
 
 pub share-requires-2-clause-from : goal.share-requires-2-clause-from
 share-requires-2-clause-from g c = c.requires.from.passes.cache.cell
@@ -29,7 +35,7 @@ returns-clause-from g c =
     let cached = c.share-2.ensures.shared tt in
     let tallied = c.share-3.ensures.shared tt in record {
       passes = record {
-        disp = (c.share.ensures.from, own.disp.1);
+        disp = (c.share.ensures.from, c.tell_queue.ensures.from);
         times = own.times;
         cache = record {
           cell = c.share-2.ensures.from;
@@ -50,7 +56,7 @@ returns-clause-to g c =
     let cached = c.share-2.ensures.shared tt in
     let tallied = c.share-3.ensures.shared tt in record {
       passes = record {
-        disp = (c.share.ensures.to, other.disp.1);
+        disp = (c.share.ensures.to, c.tell_queue.ensures.to);
         times = other.times;
         cache = record {
           cell = c.share-2.ensures.to;
@@ -68,7 +74,8 @@ returns-clause-to g c =
 
 pub returns-clause-shared : goal.returns-clause-shared
 returns-clause-shared g c =
-    passes_shared _ _ _ _ c.share.ensures.shared (c.share-2.ensures.shared tt) (c.share-3.ensures.shared tt)
+    passes_shared _ _ _ _ c.share.ensures.shared c.tell_queue.ensures.shared (c.share-2.ensures.shared tt)
+    (c.share-3.ensures.shared tt)
 
 pub returns-clause-rest : goal.returns-clause-rest
 returns-clause-rest g c = refl

@@ -1,14 +1,14 @@
 use Rattle.fd_cache.specs.History.{IsCacheHistory}
 use Rattle.fd_cache.specs.Represents.{past_of}
 use Rattle.warp_tally.specs.Tallies.{tally_past, IsTallyPast}
-use Rattle.warp_passes.proofs.Seen.{shared_from, shared_to, passes_shared}
+use Rattle.warp_passes.specs.Laws.{shared_from, shared_to, passes_shared}
 use Rattle.warp_passes.proofs.shared.Shared.tell.Goals as goal
 
 pub returns-clause-from : goal.returns-clause-from
 returns-clause-from g c =
     let cached = c.share-2.ensures.shared tt in
     let tallied = c.share-3.ensures.shared tt in record {
-      disp = (c.share.ensures.from, c.requires.from.disp.1);
+      disp = (c.share.ensures.from, c.tell_queue.ensures.from);
       times = c.requires.from.times;
       cache = record {
         cell = c.share-2.ensures.from;
@@ -24,7 +24,7 @@ pub returns-clause-to : goal.returns-clause-to
 returns-clause-to g c =
     let cached = c.share-2.ensures.shared tt in
     let tallied = c.share-3.ensures.shared tt in record {
-      disp = (c.share.ensures.to, c.requires.to.disp.1);
+      disp = (c.share.ensures.to, c.tell_queue.ensures.to);
       times = c.requires.to.times;
       cache = record {
         cell = c.share-2.ensures.to;
@@ -42,4 +42,5 @@ returns-clause-to g c =
 
 pub returns-clause-shared : goal.returns-clause-shared
 returns-clause-shared g c =
-    passes_shared _ _ _ _ c.share.ensures.shared (c.share-2.ensures.shared tt) (c.share-3.ensures.shared tt)
+    passes_shared _ _ _ _ c.share.ensures.shared c.tell_queue.ensures.shared (c.share-2.ensures.shared tt)
+    (c.share-3.ensures.shared tt)

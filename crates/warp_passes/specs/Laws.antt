@@ -1,4 +1,4 @@
--- What passes have seen, where they were told of one another.
+-- Inner: laws that crates above cite: what passes have seen, where they are split or told of one another.
 use Rattle.std.proofs.Common.{length, sym, ap, subst}
 use Rattle.std.specs.Prelude.{nat_lt}
 use Rattle.std.proofs.lemmas.Bool.{cond_both}
@@ -9,7 +9,7 @@ use Rattle.level.specs.Leveling.{HasShared}
 use Rattle.event_mgr.specs.Level.{MgrCell}
 use Rattle.event_mgr.specs.Level as Mgr
 use Rattle.warp_passes.specs.Passes.{PassView}
-use Rattle.warp_passes.specs.Cells.{AtMgr, AtCache, AtTally, ArePassesShared}
+use Rattle.warp_passes.specs.Cells.{AtMgr, AtQueue, AtCache, AtTally, ArePassesShared}
 
 module _ {E : Type 0} (Fact : Log E → Type 0) where
   pub split_left : (v w o : View E) → IsSplit v w o → Fact v.seen → Fact w.seen
@@ -32,8 +32,10 @@ module _ {L : Type 0} where
   pub passes_shared : (v w v' w' : PassView L)
       → ((k : MgrCell) → HasShared (Mgr.known_at k v.mgr) (Mgr.known_at k w.mgr)
       (Mgr.known_at k v'.mgr) (Mgr.known_at k w'.mgr))
+      → HasShared v.queue w.queue v'.queue w'.queue
       → HasShared v.cache w.cache v'.cache w'.cache → HasShared v.tally w.tally v'.tally w'.tally
       → ArePassesShared v w v' w'
-  passes_shared v w v' w' mgr cache tally (AtMgr k) = mgr k
-  passes_shared v w v' w' mgr cache tally AtCache = cache
-  passes_shared v w v' w' mgr cache tally AtTally = tally
+  passes_shared v w v' w' mgr queue cache tally (AtMgr k) = mgr k
+  passes_shared v w v' w' mgr queue cache tally AtQueue = queue
+  passes_shared v w v' w' mgr queue cache tally AtCache = cache
+  passes_shared v w v' w' mgr queue cache tally AtTally = tally
