@@ -51,16 +51,17 @@ module _ {P F C G L I X : Type 0} {H : Ghosts F X} where
 abbrev pub serving_of : HostTold → ServingTold
 serving_of host = record { files = host.files; out = host.out; front = host.front }
 
-module _ {P F C B G L I X : Type 0} {H : Ghosts F X} (told : B → BookTold) (faults : P → PollerFaults) where
+module _ {P F C B G L I X : Type 0} {H : Ghosts F X} (told : B → BookTold) (faults : P → PollerFaults)
+    (clock : C → ClockTold) where
   -- Whoever connected was served, or why not, and nothing else was done: the one link
   -- and the clock are as they were
   pub record ServesMany (root : List ℕ) (service : ServiceTold) (status : Status) (old new : HostTold)
       (served : Option (Served P F C B G L I X H)) : Type 0 where
     pub others : new ≡ record old { files = new.files; out = new.out; front = new.front }
-    pub serves : ServesFolder told faults status root service (serving_of old) (serving_of new) served
+    pub serves : ServesFolder told faults clock status root service (serving_of old) (serving_of new) served
 
 module _ {P F C B G L I X : Type 0} {H : Ghosts F X} {P2 F2 C2 G2 L2 I2 X2 : Type 0} {H2 : Ghosts F2 X2}
-    (told : B → BookTold) (faults : P → PollerFaults) where
+    (told : B → BookTold) (faults : P → PollerFaults) (clock : C → ClockTold) where
   -- what is done for the words of a command line, and what is left of a server over the
   -- front and of one over a load
   abbrev pub Runs : Option Folder → Reading → Status → (old new : HostTold)
@@ -70,6 +71,6 @@ module _ {P F C B G L I X : Type 0} {H : Ghosts F X} {P2 F2 C2 G2 L2 I2 X2 : Typ
   Runs folder (connection root) status old new served driven =
       ServesOne folder root status old new × (served ≡ None) × (driven ≡ None)
   Runs folder (serve root service) status old new served driven =
-      ServesMany told faults root service status old new served × (driven ≡ None)
+      ServesMany told faults clock root service status old new served × (driven ≡ None)
   Runs folder (drive seed connections requests dispatchers) status old new served driven =
       ServesLoad connections dispatchers status old new driven × (served ≡ None)

@@ -6,6 +6,7 @@ use Rattle.outside.specs.declared.files.Files.{Ghosts}
 use Rattle.outside.specs.declared.files.RootOut.TheVariants as Roots
 use Rattle.outside.specs.declared.sink.SinkOut.TheVariants.{Stored, Failed}
 use Rattle.outside.specs.FileCauses.{AskedRoot, FilesTold}
+use Rattle.outside.specs.Moments.{ClockTold}
 use Rattle.outside.specs.SinkCauses.{Puts, SinkTold}
 use Rattle.turn_cell.specs.Weights.{weigh}
 use Rattle.poller.specs.Faults.{PollerFaults}
@@ -16,6 +17,7 @@ use Rattle.warp_front.specs.Fronts.{FrontTold}
 use Rattle.warp_core.specs.declared.served.ServeEnd.{ServeEnd}
 use Rattle.warp_core.specs.declared.served.ServeEnd.TheVariants as Serving
 use Rattle.warp_core.specs.declared.served.Served.{Served}
+use Rattle.warp_core.specs.Beats.{KeptBeats}
 use Rattle.warp_core.specs.Ends.{EndsSo}
 use Rattle.warp_core.specs.Journals.{AreExplained}
 use Rattle.warp_commands.specs.declared.status.Status.{Status}
@@ -67,16 +69,18 @@ abbrev pub HasListened : List ℕ → ServiceTold → (old new : FrontTold) → 
 HasListened root service old new =
     new ≡ record { place = Some (service.address, service.port); root = Some root; faults = old.faults }
 
-module _ {P F C B G L I X : Type 0} {H : Ghosts F X} (told : B → BookTold) (faults : P → PollerFaults) where
+module _ {P F C B G L I X : Type 0} {H : Ghosts F X} (told : B → BookTold) (faults : P → PollerFaults)
+    (clock : C → ClockTold) where
   -- What a server left: the passes are of what all shared and level, they keep the half of the headline that
-  -- speaks of descriptors, a journal explains what each dispatcher did, there were as many dispatchers as
-  -- were asked for, and the end has its cause
+  -- speaks of descriptors, a journal explains what each dispatcher did, the first one swept whenever that was
+  -- due and no other one did, there were as many dispatchers as were asked for, and the end has its cause
   pub record HasServed (service : ServiceTold) (s : Served P F C B G L I X H) : Type 0 where
     pub own : All (λ pass. AreOf (arc_value s.shared) pass) s.passes.items
     pub level : ArePassesLevel pass_view s.passes.items
     pub callbacks : KeepsCallbacks pass_view s.passes.items
     pub adds_up : ServedAddsUp told service.connections s
     pub explained : AreExplained told service.connections s.passes.items s.kits.items
+    pub beats : KeptBeats clock service.seconds s.passes.items s.kits.items
     pub count : length s.kits.items ≡ service.dispatchers
     pub ends : EndsSo pass_view service.connections s.end s.passes.items
         (weigh (λ kit. (faults kit.poller).polls) s.kits.items)
@@ -111,14 +115,15 @@ RefusesToServe NoMemory root service old new =
     × Puts Stored listening_line old.out new.out)
 RefusesToServe _ root service old new = ⊥
 
-module _ {P F C B G L I X : Type 0} {H : Ghosts F X} (told : B → BookTold) (faults : P → PollerFaults) where
+module _ {P F C B G L I X : Type 0} {H : Ghosts F X} (told : B → BookTold) (faults : P → PollerFaults)
+    (clock : C → ClockTold) where
   -- A server was begun, and left this: its root was there, the front listened where it was to, and the status
   -- and the lines are those of its end
   pub record ServesTo (status : Status) (root : List ℕ) (service : ServiceTold) (old new : ServingTold)
       (s : Served P F C B G L I X H) : Type 0 where
     pub rooted : AskedRoot Roots.Present root old.files new.files
     pub listened : HasListened root service old.front new.front
-    pub served : HasServed told faults service s
+    pub served : HasServed told faults clock service s
     pub ends : EndsServing status s.end
     pub prints : PrintsServing status (accepted_in s.end) old.out new.out
 

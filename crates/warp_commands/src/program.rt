@@ -58,7 +58,7 @@ where
 
     // What was done is what the words ask for, and the status has its cause there.
     ensures runs { IsStatus result (λ status.
-        Runs book_told N.Poller.meaning.faults F.folder (words_read (map string_bytes words.now)) status
+        Runs book_told N.Poller.meaning.faults N.Clock.told F.folder (words_read (map string_bytes words.now)) status
         (record {
           link = L.told host.old.link;
           files = F.told host.old.files;
@@ -97,7 +97,7 @@ where
     <N::Files as Files>::File: Send,
     requires fresh { IsFresh (L.told host.old.link) }
     requires unserved { (host.old.served ≡ None) × (host.old.driven ≡ None) }
-    ensures runs { Runs book_told N.Poller.meaning.faults F.folder
+    ensures runs { Runs book_told N.Poller.meaning.faults N.Clock.told F.folder
         (words_read (map string_bytes words.now)) result
         (record {
           link = L.told host.old.link;

@@ -74,7 +74,7 @@ where
     <N::Files as Files>::File: Send,
     requires service { IsService service }
     requires unserved { served.old ≡ None }
-    ensures { ServesFolder book_told N.Poller.meaning.faults result root.now (service_shown service)
+    ensures { ServesFolder book_told N.Poller.meaning.faults N.Clock.told result root.now (service_shown service)
         (record { files = F.told files.old; out = O.told out.old; front = N.told front.old })
         (record { files = F.told files.new; out = O.told out.new; front = N.told front.new })
         served.new }

@@ -1,5 +1,5 @@
 -- What happened that the end of a server rests on.
-use Rattle.std.proofs.Common.{◌≡◌, ℕ, List, [], ⊎_elim, All, sym, ap, subst}
+use Rattle.std.proofs.Common.{◌≡◌, ℕ, List, [], ⊎_elim, All, sym, subst}
 use Rattle.std.specs.Prelude.{Option, Some, None, IfSome, IsSomeAnd, Any}
 use Rattle.outside.specs.declared.files.Files.{Ghosts}
 use Rattle.poller.specs.Faults.{PollerFaults}

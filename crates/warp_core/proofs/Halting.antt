@@ -1,9 +1,8 @@
 -- Why a dispatcher makes no further turn, as its passes grow, and what the end of the server rests on then.
-use Rattle.std.proofs.Common.{refl, ◌≡◌, ℕ, ◌+◌, ◌≤◌, List, [], ◌∷◌, ◌++◌, map, length, get_or, All, sym, ap}
+use Rattle.std.proofs.Common.{◌≡◌, ℕ, ◌≤◌, List, All, sym, ap}
 use Rattle.std.proofs.Common.{◌∙◌, subst, ⊎_elim, arith}
 use Rattle.std.specs.Prelude.{◌⊎◌, slice_get, Some, None, Option, Any, IfSome, IsSomeAnd}
 use Rattle.std.proofs.lemmas.Option.{slice_get-get_or}
-use mathlib.Core.List.{IsPrefix}
 use Rattle.turn_cell.specs.declared.view.View.{View}
 use Rattle.turn_cell.specs.Weights.{weigh}
 use Rattle.turn_cell.specs.View.{own_entries}

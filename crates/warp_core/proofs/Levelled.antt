@@ -4,6 +4,7 @@ use Rattle.std.proofs.Common.{arith}
 use Rattle.std.proofs.lemmas.List.Elements.{All-cons, All-nil, All-head, All-tail}
 use Rattle.std.specs.Prelude.{Option, Some, None}
 use Rattle.outside.specs.declared.files.Files.{Ghosts}
+use Rattle.outside.specs.Moments.{ClockTold}
 use Rattle.reg_keys.specs.declared.entry.Entry.{Entry}
 use Rattle.turn_cell.specs.declared.view.View.{View}
 use Rattle.turn_cell.specs.Calls.{view_of}
@@ -28,7 +29,7 @@ use Rattle.warp_core.specs.declared.row.Row.{Row}
 use Rattle.warp_core.specs.declared.row.Halted.{Halted}
 use Rattle.warp_core.specs.declared.row.Halted.TheVariants as Halts
 use Rattle.warp_core.specs.Rows.{Beside, IsRowOf, HaltsBy, Serves, beside_of, known_by, passes_of, stop_in}
-use Rattle.warp_core.specs.Rows.{told_by}
+use Rattle.warp_core.specs.Rows.{beat_of, told_by}
 use Rattle.warp_core.specs.Stops.{stops}
 use Rattle.warp_core.proofs.Keeping.{keeps_levelled}
 use Rattle.warp_core.proofs.RowLists.{head_or, tail_of}
@@ -92,10 +93,10 @@ halts_same p q t u h k polls tally same halts =
     subst (λ z. HaltsBy q u z) (sym same) (halts_cases p q t u h polls tally halts)
 
 module _ {P F C B G L I X : Type 0} {H : Ghosts F X} (told : B → BookTold) (faults : P → PollerFaults)
-    (s : Shared (Job P F L I X) F X H) where
+    (clock : C → ClockTold) (s : Shared (Job P F L I X) F X H) where
   levelled_one : (x y : Row P F C B G L I X H) → Serves told faults s x → IsRowOf s y
       → OwnsTheSame (known_by x) (known_by y)
-      → beside_of told faults y ≡ beside_of told faults x → Serves told faults s y
+      → beside_of told faults clock y ≡ beside_of told faults clock x → Serves told faults s y
   levelled_one x y serves own owns beside =
       let timed : calls_of (known_by y).times ≡ calls_of (known_by x).times =
       ap (λ (z : Beside). calls_of z.passes.times) beside in
@@ -120,23 +121,32 @@ module _ {P F C B G L I X : Type 0} {H : Ghosts F X} (told : B → BookTold) (fa
   pub levelled : (xs ys : List (Row P F C B G L I X H)) → All (λ x. Serves told faults s x) xs
       → All (λ y. IsRowOf s y) ys
       → Each OwnsTheSame (map known_by xs) (map known_by ys)
-      → map (beside_of told faults) ys ≡ map (beside_of told faults) xs → All (λ y. Serves told faults s y) ys
+      → map (beside_of told faults clock) ys ≡ map (beside_of told faults clock) xs → All (λ y. Serves told faults s y) ys
   levelled [] [] all own owns same = All-nil (λ y. Serves told faults s y)
   levelled [] (y ∷ ys) all own owns same = absurd owns
   levelled (x ∷ xs) [] all own owns same = absurd owns
   levelled (x ∷ xs) (y ∷ ys) all own owns same = All-cons (λ z. Serves told faults s z) y ys
       (levelled_one x y (All-head (λ z. Serves told faults s z) x xs all)
-      (All-head (λ z. IsRowOf s z) y ys own) owns.0 (ap (head_or (beside_of told faults x)) same))
+      (All-head (λ z. IsRowOf s z) y ys own) owns.0 (ap (head_or (beside_of told faults clock x)) same))
       (levelled xs ys (All-tail (λ z. Serves told faults s z) x xs all)
       (All-tail (λ z. IsRowOf s z) y ys own) owns.1 (ap tail_of same))
 
   pub limits_same : (xs ys : List (Row P F C B G L I X H))
-      → map (beside_of told faults) ys ≡ map (beside_of told faults) xs
+      → map (beside_of told faults clock) ys ≡ map (beside_of told faults clock) xs
       → map (λ row. row.runner.limit) ys ≡ map (λ row. row.runner.limit) xs
-  limits_same xs ys same = map_map (λ (z : Beside). z.limit) (beside_of told faults) ys
+  limits_same xs ys same = map_map (λ (z : Beside). z.limit) (beside_of told faults clock) ys
       ∙ (ap (map (λ (z : Beside). z.limit)) same
-      ∙ sym (map_map (λ (z : Beside). z.limit) (beside_of told faults) xs))
+      ∙ sym (map_map (λ (z : Beside). z.limit) (beside_of told faults clock) xs))
 
+  pub beats_same : (xs ys : List (Row P F C B G L I X H))
+      → map (beside_of told faults clock) ys ≡ map (beside_of told faults clock) xs
+      → map (beat_of clock) ys ≡ map (beat_of clock) xs
+  beats_same xs ys same = map_map (λ (z : Beside). z.beats) (beside_of told faults clock) ys
+      ∙ (ap (map (λ (z : Beside). z.beats)) same
+      ∙ sym (map_map (λ (z : Beside). z.beats) (beside_of told faults clock) xs))
+
+module _ {P F C B G L I X : Type 0} {H : Ghosts F X} (told : B → BookTold) (faults : P → PollerFaults)
+    (s : Shared (Job P F L I X) F X H) where
   pub rows_own : (xs : List (Row P F C B G L I X H)) → All (λ x. Serves told faults s x) xs
       → All (λ x. IsRowOf s x) xs
   rows_own xs all k d lt = (all k d lt).own

@@ -1,10 +1,12 @@
 pub mod Apart
 pub mod Beating
+pub mod BeatsApart
 pub mod Caused
 pub mod EventSums
 pub mod Filling
 pub mod Halting
 pub mod Keeping
+pub mod KeepingBeats
 pub mod Levelled
 pub mod Looked
 pub mod Made

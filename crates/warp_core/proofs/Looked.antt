@@ -1,9 +1,8 @@
 -- What a look at the tally showed holds of all dispatchers, once they were brought level after it.
-use Rattle.std.proofs.Common.{◌≡◌, ℕ, zero, suc, ◌+◌, ◌<◌, ◌≤◌, List, [], ◌∷◌, ◌++◌, reverse, map, set}
+use Rattle.std.proofs.Common.{◌≡◌, ℕ, zero, suc, ◌+◌, ◌<◌, ◌≤◌, List, [], ◌∷◌, ◌++◌, map}
 use Rattle.std.proofs.Common.{length, get_or, All, refl, sym, ap, ◌∙◌, subst, arith, length-append}
-use Rattle.std.specs.Prelude.{slice_get, Option, Some, None}
-use Rattle.std.specs.List.{Contains}
-use Rattle.std.proofs.lemmas.Option.{none-some, same_Some, slice_get-get_or}
+use Rattle.std.specs.Prelude.{Option, Some, None}
+use Rattle.std.proofs.lemmas.Option.{none-some, same_Some}
 use Rattle.std.proofs.lemmas.List.{length-reverse, length-map}
 use mathlib.Core.List.{IsPrefix}
 use Rattle.reg_keys.specs.declared.opening.Opening.{Opening}
@@ -11,12 +10,10 @@ use Rattle.reg_keys.specs.Tests.{total}
 use Rattle.turn_cell.specs.declared.view.View.{View}
 use Rattle.turn_cell.specs.Weights.{weigh}
 use Rattle.turn_cell.specs.History.{Log}
-use Rattle.level.specs.Leveling.{BroughtLevel, Grows, IsLevel, seen_by}
-use Rattle.level.specs.ListLaws.{All-get, get_map}
+use Rattle.level.specs.Leveling.{seen_by}
 use Rattle.std.proofs.lemmas.List.Elements.{All-head}
 use Rattle.warp_tally.specs.declared.calls.TallyCall.TheVariants.{Look}
 use Rattle.warp_tally.specs.declared.calls.TallyEntry.{TallyEntry}
-use Rattle.warp_tally.specs.declared.calls.TallyReply.{TallyReply}
 use Rattle.warp_tally.specs.Tallies.{IsTallyPast, tally_past}
 use Rattle.warp_tally.specs.Accounts.{ShowsCounts, accepts, accepts_any, finishes, finishes_any, turns_away}
 use Rattle.warp_passes.specs.Own.{entries_of}

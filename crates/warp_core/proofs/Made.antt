@@ -1,7 +1,8 @@
 -- Dispatchers that are made of new passes and empty books serve.
-use Rattle.std.proofs.Common.{◌≡◌, ℕ, List, [], ◌∷◌, map, length, get_or, All, sym, ap, ◌∙◌, subst, arith}
-use Rattle.std.specs.Prelude.{Option}
+use Rattle.std.proofs.Common.{◌≡◌, ℕ, List, [], ◌∷◌, map, get_or, All, sym, ap, ◌∙◌, subst, arith}
+use Rattle.std.specs.Prelude.{Option, None}
 use Rattle.outside.specs.declared.files.Files.{Ghosts}
+use Rattle.outside.specs.Moments.{ClockTold}
 use Rattle.turn_cell.specs.Calls.{view_of}
 use Rattle.fd_cache.specs.declared.lease.Lease.{Lease}
 use Rattle.poller.specs.Faults.{PollerFaults}
@@ -18,9 +19,11 @@ use Rattle.warp_runner.specs.Journal.{FitsUntil}
 use Rattle.warp_core.specs.declared.row.Row.{Row}
 use Rattle.warp_core.specs.declared.row.Halted.{Halted}
 use Rattle.warp_core.specs.Making.{IsPlain}
-use Rattle.warp_core.specs.Rows.{HaltsBy, Serves, known_by, passes_of, stop_in, told_by}
+use Rattle.warp_core.specs.Rows.{HaltsBy, Serves, beat_of, known_by, last_of, passes_of, stop_in, told_by}
+use Rattle.warp_core.specs.SweepTimes.{KeepsBeats}
 use Rattle.warp_core.proofs.Apart.{all_parts}
 use Rattle.warp_core.proofs.Keeping.{keeps_first}
+use Rattle.warp_core.proofs.KeepingBeats.{kept_first}
 use Rattle.warp_core.proofs.Levelled.{fits_first}
 
 -- what holds of each part holds of what it is a part of
@@ -67,6 +70,21 @@ module _ {P F C B G L I X : Type 0} {H : Ghosts F X} (told : B → BookTold) (fa
             (sym (plain k d lt).goes_on) tt;
         events = keeps_first (known_by row) is_new none;
       }
+
+  -- and their beats are kept
+  pub new_beats : (clock : C → ClockTold) (rows : List (Row P F C B G L I X H))
+      (passes : List (ServePass (Job P F L I X) F X H))
+      → map passes_of rows ≡ passes → AreNewPasses s passes
+      → ((v : PassView (Lease F X H)) → IsLawfulPass v → IsNew v → DidNothing v)
+      → All (λ row. last_of row.beats ≡ None) rows → All KeepsBeats (map (beat_of clock) rows)
+  new_beats clock rows passes same new law fresh = all_parts KeepsBeats (beat_of clock) rows (λ k d lt.
+      let row = get_or rows k d in
+      let own : AreOf s (passes_of row) =
+      each_row passes_of (λ p. AreOf s p) rows passes same new.own k d lt in
+      let is_new : IsNew (pass_view (passes_of row)) =
+      each_row passes_of (λ p. IsNew (pass_view p)) rows passes same new.new k d lt in
+      let none : DidNothing (known_by row) = law (known_by row) (lawful_of s (passes_of row) own) is_new in
+      kept_first (beat_of clock row) (fresh k d lt) none.timed)
 
   pub new_limits : (rows : List (Row P F C B G L I X H)) → All (IsPlain s limit) rows
       → All (λ row. row.runner.limit ≡ limit) rows

@@ -1,6 +1,6 @@
--- To be believed: when a sweep is due, and what a beat of the dispatcher that keeps the beats does.
-use Rattle.std.specs.Prelude.{◌≡◌, ◌⊎◌, ℕ, ◌+◌, ◌<◌, ◌≤◌, List, [], ◌∷◌, ◌++◌, Bool, true, false, Option}
-use Rattle.std.specs.Prelude.{Some, None}
+-- To be believed: what a beat of the dispatcher that keeps the beats does, and what the beats of a whole run
+-- come to.
+use Rattle.std.specs.Prelude.{◌≡◌, ℕ, List, [], ◌∷◌, ◌++◌, All, Bool, true, false, Option, Some, None}
 use Rattle.outside.specs.declared.files.Files.{Ghosts}
 use Rattle.outside.specs.Moments.{ClockTold, Gives}
 use Rattle.turn_cell.specs.declared.view.View.{View}
@@ -9,20 +9,16 @@ use Rattle.timeout_mgr.specs.Calls.{view_of as seen_of}
 use Rattle.timeout_mgr.specs.Passes.{calls_of}
 use Rattle.fd_cache.specs.declared.deed.CacheDeed.{CacheDeed}
 use Rattle.fd_cache.specs.declared.deed.CacheDeed.TheVariants.{Reaped}
+use Rattle.warp_jobs.specs.declared.kit.Kit.{Kit}
+use Rattle.warp_passes.specs.declared.shared.ServePass.{ServePass}
 use Rattle.warp_passes.specs.Own.{entries_of}
+use Rattle.warp_passes.specs.Passes.{pass_view}
 use Rattle.warp_runner.specs.Sweeps.{HasSweptOnce}
 use Rattle.warp_core.specs.declared.beat.Beats.{Beats}
 use Rattle.warp_core.specs.declared.row.Row.{Row}
 use Rattle.warp_core.specs.declared.row.Halted.{Halted}
 use Rattle.warp_core.specs.Rows.{HasGoneOn}
-
--- A sweep is due at a moment that is this many seconds or more after the last one's, and then it is the last
--- one's itself. At the first moment none is due, and it counts as the last one's
-abbrev pub IsDueAt : ℕ → Option ℕ → ℕ → Bool → Option ℕ → Type 0
-IsDueAt seconds None now due last = (due ≡ false) × (last ≡ Some now)
-IsDueAt seconds (Some was) now due last =
-    ((due ≡ true) × (was + seconds ≤ now) × (last ≡ Some now))
-    ⊎ ((due ≡ false) × (now < was + seconds) × (last ≡ Some was))
+use Rattle.warp_core.specs.SweepTimes.{IsDueAt, NeverSwept, SweptWhenDue}
 
 -- the one new deed of a pass on the cache is a reap
 abbrev pub HasReaped : {L : Type 0} → View (CacheDeed L) → View (CacheDeed L) → Type 0
@@ -77,3 +73,13 @@ module _ {P F C B G L I X : Type 0} {H : Ghosts F X} where
   BeginsWithBeat clock old new =
       (result : Option Halted) × (between : Row P F C B G L I X H)
       × HasBeat clock old.beats old result between × HasGoneOn between new
+
+module _ {J P F C B G X : Type 0} {H : Ghosts F X} (clock : C → ClockTold) where
+  -- The first dispatcher keeps the beats: it swept whenever that was due, by the moments at which its clock was
+  -- asked, and at no other time. No other dispatcher swept
+  abbrev pub KeptBeats : ℕ → List (ServePass J F X H) → List (Kit P F C B G) → Type 0
+  KeptBeats seconds [] [] = Unit {0}
+  KeptBeats seconds (pass ∷ passes) (kit ∷ kits) =
+      ((last : Option ℕ) × SweptWhenDue seconds last (clock kit.clock) (calls_of (pass_view pass).times))
+      × All (λ other. NeverSwept (calls_of (pass_view other).times)) passes
+  KeptBeats seconds _ _ = ⊥

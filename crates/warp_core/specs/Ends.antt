@@ -1,5 +1,5 @@
 -- To be believed: how a server ends, and what each end rests on.
-use Rattle.std.specs.Prelude.{◌≡◌, ℕ, ◌+◌, ◌≤◌, List, [], ◌∷◌}
+use Rattle.std.specs.Prelude.{◌≡◌, ℕ, ◌+◌, ◌≤◌, List}
 use Rattle.reg_keys.specs.declared.opening.Opening.{Opening}
 use Rattle.turn_cell.specs.Weights.{weigh}
 use Rattle.warp_tally.specs.declared.calls.TallyEntry.{TallyEntry}

@@ -4,7 +4,7 @@ use Rattle.outside.specs.declared.files.Files.{Ghosts}
 use Rattle.warp_books.specs.Books.{BookTold}
 use Rattle.warp_jobs.specs.declared.kit.Kit.{Kit}
 use Rattle.warp_passes.specs.declared.shared.ServePass.{ServePass}
-use Rattle.warp_passes.specs.Passes.{PassView, pass_view}
+use Rattle.warp_passes.specs.Passes.{pass_view}
 use Rattle.warp_runner.specs.Acts.{ServeTold, told_of}
 use Rattle.warp_runner.specs.Journal.{Deed, DidOne, JournalFits}
 

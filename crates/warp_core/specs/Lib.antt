@@ -6,3 +6,4 @@ pub mod Making
 pub mod Rows
 pub mod Settling
 pub mod Stops
+pub mod SweepTimes

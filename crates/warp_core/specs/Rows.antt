@@ -3,10 +3,12 @@
 use Rattle.std.specs.Prelude.{◌≡◌, ℕ, ◌≤◌, List, [], Any, Option, Some, None}
 use Rattle.std.specs.Arc.{arc_value}
 use Rattle.outside.specs.declared.files.Files.{Ghosts}
+use Rattle.outside.specs.Moments.{ClockTold}
 use Rattle.turn_cell.specs.declared.view.View.{View}
 use Rattle.turn_cell.specs.Weights.{weigh}
 use Rattle.turn_cell.specs.Calls.{view_of}
 use Rattle.timeout_mgr.specs.Calls.{view_of as seen_of}
+use Rattle.timeout_mgr.specs.Passes.{calls_of}
 use Rattle.event_mgr.specs.Manager.{mgr_view}
 use Rattle.poller.specs.Faults.{PollerFaults}
 use Rattle.fd_cache.specs.declared.lease.Lease.{Lease}
@@ -22,6 +24,8 @@ use Rattle.warp_runner.specs.Acts.{ServeTold, told_of}
 use Rattle.warp_runner.specs.Journal.{Deed, DidOne, FitsUntil}
 use Rattle.warp_core.specs.Events.{KeepsEvents}
 use Rattle.warp_core.specs.Stops.{stops}
+use Rattle.warp_core.specs.SweepTimes.{BeatTold}
+use Rattle.warp_core.specs.declared.beat.Beats.{Beats}
 use Rattle.warp_core.specs.declared.row.Row.{Row}
 use Rattle.warp_core.specs.declared.row.Halted.{Halted}
 use Rattle.warp_core.specs.declared.row.Halted.TheVariants as Halts
@@ -40,6 +44,17 @@ stop_in None = None
 stop_in (Some Halts.PollFault) = None
 stop_in (Some (Halts.WithCode code)) = Some code
 stop_in (Some Halts.Spent) = None
+
+module _ {F X : Type 0} {H : Ghosts F X} where
+  -- every how many seconds a dispatcher that keeps the beats sweeps
+  abbrev pub seconds_of : Option (Beats F X H) → Option ℕ
+  seconds_of None = None
+  seconds_of (Some beats) = Some beats.seconds
+
+  -- the moment of its last sweep
+  abbrev pub last_of : Option (Beats F X H) → Option ℕ
+  last_of None = None
+  last_of (Some beats) = beats.last
 
 module _ {P F C B G L I X : Type 0} {H : Ghosts F X} where
   -- the passes of a dispatcher
@@ -93,6 +108,15 @@ module _ {P F C B G L I X : Type 0} {H : Ghosts F X} where
     pub passes : HasPassGrown (known_by old) (known_by new)
     pub limit : new.runner.limit ≡ old.runner.limit
 
+  -- what is known of its beats
+  abbrev pub beat_of : (C → ClockTold) → Row P F C B G L I X H → BeatTold
+  beat_of clock row = record {
+    seconds = seconds_of row.beats;
+    last = last_of row.beats;
+    clock = clock row.runner.clock;
+    calls = calls_of (seen_of row.runner.timed);
+  }
+
 -- what a dispatcher holds beside its passes of cells, as far as contracts know it
 pub record Beside : Type 0 where
   pub passes : PassRest
@@ -100,13 +124,15 @@ pub record Beside : Type 0 where
   pub limit : ℕ
   pub polls : ℕ
   pub halted : Option Halted
+  pub beats : BeatTold
 
 module _ {P F C B G L I X : Type 0} {H : Ghosts F X} where
-  abbrev pub beside_of : (B → BookTold) → (P → PollerFaults) → Row P F C B G L I X H → Beside
-  beside_of told faults row = record {
+  abbrev pub beside_of : (B → BookTold) → (P → PollerFaults) → (C → ClockTold) → Row P F C B G L I X H → Beside
+  beside_of told faults clock row = record {
     passes = rest_of (known_by row);
     book = told row.runner.book;
     limit = row.runner.limit;
     polls = (faults row.runner.poller).polls;
     halted = row.halted;
+    beats = beat_of clock row;
   }

@@ -1,13 +1,14 @@
 //! The beat of a server: from time to time connections on which nothing happens are ended, and open files
 //! that nobody asks for are closed.
-ghost use Rattle.std.specs.Prelude.{◌≡◌, IfSome, None};
+ghost use Rattle.std.specs.Prelude.{◌≡◌, IfOk, IfSome, None};
 ghost use Rattle.turn_cell.specs.Calls.{view_of};
 ghost use Rattle.timeout_mgr.specs.Calls.{view_of as seen_of};
 ghost use Rattle.timeout_mgr.specs.Passes.{calls_of};
 ghost use Rattle.poller.specs.Faults.{PollerFaults};
 ghost use Rattle.warp_runner.specs.Sweeps.{HasSweptOnce};
-ghost use Rattle.warp_core.specs.Beats.{HasBeat, HasCleaned, HasReaped, HasReapedTwice, IsDueAt};
-ghost use Rattle.warp_core.specs.Rows.{HasGoneOn, MayHalt, Serves};
+ghost use Rattle.warp_core.specs.Beats.{HasBeat, HasCleaned, HasReaped, HasReapedTwice};
+ghost use Rattle.warp_core.specs.Rows.{HasGoneOn, MayHalt, Serves, beat_of};
+ghost use Rattle.warp_core.specs.SweepTimes.{IsDueAt, KeepsOn};
 
 use crate::row::{Halted, Row};
 use fd_cache::{Basket, Lease};
@@ -33,7 +34,9 @@ pub(crate) struct Beats<F: Files> {
 
 impl<F: Files> Beats<F> {
     /// Nothing was asked yet. All memory that beats need is taken here.
-    pub(crate) fn new(alloc: Global, seconds: u64) -> Result<Beats<F>, AllocError> {
+    pub(crate) fn new(alloc: Global, seconds: u64) -> Result<Beats<F>, AllocError>
+        ensures { IfOk result (λ beats. (beats.seconds ≡ seconds) × (beats.last ≡ None)) }
+    {
         Ok(Beats {
             seconds,
             last: None,
@@ -72,6 +75,7 @@ pub(crate) fn beat<P: Poller, F: Files, C: Clock, B: Book<Finished<P::Link, F>>,
     ensures goes_on { HasGoneOn row.old row.new }
     ensures may_halt { IfSome result (λ halted. MayHalt B.told P.meaning.faults row.new halted) }
     ensures beat { HasBeat C.told row.old.beats row.old result row.new }
+    ensures on { KeepsOn (beat_of C.told row.old) (beat_of C.told row.new) }
 {
     let Some(mut beats) = row.beats.take() else {
         return None;
@@ -97,6 +101,7 @@ fn clean<P: Poller, F: Files, C: Clock, B: Book<Finished<P::Link, F>>, G: Gate, 
     requires { Serves B.told P.meaning.faults shared.now row.old }
     ensures serves { Serves B.told P.meaning.faults shared.now row.new }
     ensures goes_on { HasGoneOn row.old row.new }
+    ensures clock { row.new.runner.clock ≡ row.old.runner.clock }
     ensures may_halt { IfSome result.0 (λ halted. MayHalt B.told P.meaning.faults row.new halted) }
     ensures cleaned { HasCleaned row.old result.0 row.new }
     ensures keeps { (result.1.seconds ≡ beats.seconds) × (result.1.last ≡ beats.last) }
@@ -140,6 +145,7 @@ fn sweep<P: Poller, F: Files, C: Clock, B: Book<Finished<P::Link, F>>, G: Gate, 
     requires { Serves B.told P.meaning.faults shared.now row.old }
     ensures serves { Serves B.told P.meaning.faults shared.now row.new }
     ensures goes_on { HasGoneOn row.old row.new }
+    ensures clock { row.new.runner.clock ≡ row.old.runner.clock }
     ensures may_halt { IfSome result (λ halted. MayHalt B.told P.meaning.faults row.new halted) }
     ensures swept { HasSweptOnce (calls_of (seen_of row.old.runner.timed))
         (calls_of (seen_of row.new.runner.timed)) }
@@ -165,6 +171,7 @@ fn reap_twice<P: Poller, F: Files, C: Clock, B: Book<Finished<P::Link, F>>, G: G
     requires { Serves B.told P.meaning.faults shared.now row.old }
     ensures serves { Serves B.told P.meaning.faults shared.now row.new }
     ensures goes_on { HasGoneOn row.old row.new }
+    ensures clock { row.new.runner.clock ≡ row.old.runner.clock }
     ensures may_halt { IfSome result.0 (λ halted. MayHalt B.told P.meaning.faults row.new halted) }
     ensures timed { row.new.runner.timed ≡ row.old.runner.timed }
     ensures reaped { result.0 ≡ None
@@ -187,6 +194,7 @@ fn reap<P: Poller, F: Files, C: Clock, B: Book<Finished<P::Link, F>>, G: Gate, R
     requires { Serves B.told P.meaning.faults shared.now row.old }
     ensures serves { Serves B.told P.meaning.faults shared.now row.new }
     ensures goes_on { HasGoneOn row.old row.new }
+    ensures clock { row.new.runner.clock ≡ row.old.runner.clock }
     ensures may_halt { IfSome result.0 (λ halted. MayHalt B.told P.meaning.faults row.new halted) }
     ensures timed { row.new.runner.timed ≡ row.old.runner.timed }
     ensures reaped { result.0 ≡ None

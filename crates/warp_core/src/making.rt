@@ -1,11 +1,12 @@
 //! Dispatchers are made of passes and kits, and taken apart into them at the end.
-ghost use Rattle.std.specs.Prelude.{◌≡◌, ◌≤◌, [], All, IfOk, length, map, vec_capacity};
+ghost use Rattle.std.specs.Prelude.{◌≡◌, ◌≤◌, [], All, IfOk, None, length, map, vec_capacity};
 ghost use Rattle.std.specs.Arc.{arc_value};
 ghost use Rattle.poller.specs.Faults.{PollerFaults};
 ghost use Rattle.warp_books.specs.Books.{IsBookOf};
 ghost use Rattle.warp_passes.specs.Levels.{AreNewPasses};
-ghost use Rattle.warp_core.specs.Making.{IsPlain, HasParts};
-ghost use Rattle.warp_core.specs.Rows.{Serves, passes_of};
+ghost use Rattle.warp_core.specs.Making.{IsPlain, HasParts, KeepsWhere};
+ghost use Rattle.warp_core.specs.Rows.{Serves, beat_of, last_of, passes_of, seconds_of};
+ghost use Rattle.warp_core.specs.SweepTimes.{FirstKeeps};
 
 use crate::beat::Beats;
 use crate::row::Row;
@@ -42,6 +43,7 @@ pub(crate) fn rows_of<
         (λ rows. All (λ row. Serves B.told P.meaning.faults (arc_value shared.now) row) rows.items) }
     ensures limit { IfOk result (λ rows. All (λ row. row.runner.limit ≡ limit) rows.items) }
     ensures passes { IfOk result (λ rows. map passes_of rows.items ≡ passes.items) }
+    ensures beats { IfOk result (λ rows. FirstKeeps seconds (map (beat_of C.told) rows.items)) }
 {
     // A law of new passes, for the proof: it does nothing when run.
     new_passes_did_nothing::<Lease<F>>();
@@ -62,7 +64,10 @@ fn beats_of<F: Files>(
     alloc: Global,
     seconds: u64,
     is_first: bool,
-) -> Result<Option<Beats<F>>, AllocError> {
+) -> Result<Option<Beats<F>>, AllocError>
+    ensures alone { IfOk result (λ beats. KeepsWhere is_first seconds (seconds_of beats)) }
+    ensures last { IfOk result (λ beats. last_of beats ≡ None) }
+{
     if is_first {
         return Ok(Some(Beats::new(alloc, seconds)?));
     }
@@ -80,6 +85,7 @@ fn row_of<P: Poller + Drop, F: Files + Drop, C: Drop, B: Drop, G: Drop>(
 ) -> Result<Row<P, F, C, B, G>, AllocError>
     ensures pass { IfOk result (λ row. passes_of row ≡ pass) }
     ensures book { IfOk result (λ row. row.runner.book ≡ kit.book) }
+    ensures beats { IfOk result (λ row. row.beats ≡ beats) }
     ensures plain { IfOk result (λ row. IsPlain (arc_value shared) limit row) }
 {
     let ServePass {

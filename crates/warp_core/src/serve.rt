@@ -7,11 +7,14 @@ ghost use Rattle.warp_books.specs.Books.{IsBookOf};
 ghost use Rattle.warp_passes.specs.Cells.{SeatsAreOnce};
 ghost use Rattle.warp_passes.specs.Levels.{ArePassesLevel};
 ghost use Rattle.warp_passes.specs.Passes.{AreOf, pass_view};
+ghost use Rattle.dispatcher.specs.Stripes.{Each};
 ghost use Rattle.warp_core.specs.declared.row.Halted.TheVariants as Halts;
+ghost use Rattle.warp_core.specs.Beats.{KeptBeats};
 ghost use Rattle.warp_core.specs.Ends.{EndsSo, HasCause};
 ghost use Rattle.warp_core.specs.Events.{KeepAllEvents};
 ghost use Rattle.warp_core.specs.Journals.{AreExplained, SomeDid};
-ghost use Rattle.warp_core.specs.Rows.{HasGoneOn, OneDid, Serves, known_by, stop_in};
+ghost use Rattle.warp_core.specs.Rows.{HasGoneOn, OneDid, Serves, beat_of, known_by, stop_in};
+ghost use Rattle.warp_core.specs.SweepTimes.{KeepsOn};
 
 use crate::making::{Parts, rows_of};
 use crate::row::{Halted, Row};
@@ -75,6 +78,8 @@ where
         (weigh (λ kit. (P.meaning.faults kit.poller).polls) served.kits.items)) }
     ensures cause { IfOk result
         (λ served. HasCause served.end (SomeDid B.told limit served.passes.items served.kits.items)) }
+    ensures beats { IfOk result
+        (λ served. KeptBeats C.told seconds served.passes.items served.kits.items) }
     ensures same { IfOk result (λ served. (served.limit ≡ limit) × (served.seconds ≡ seconds)) }
 {
     // Laws of seats, of level passes and of histories, for the proof: they do nothing when run.
@@ -129,6 +134,7 @@ where
     requires listener { (P.Listener.told listener).failed_row ≡ 0 }
     ensures serve { All (λ row. Serves B.told P.meaning.faults shared.now row) rows.new
         × All (λ row. row.runner.limit ≡ limit) rows.new }
+    ensures beats { Each KeepsOn (map (beat_of C.told) rows.old) (map (beat_of C.told) rows.new) }
     ensures level { ArePassesLevel known_by rows.new }
     ensures cause { HasCause result (OneDid B.told limit rows.new) }
     ensures ends { EndsSo known_by limit result rows.new
@@ -153,6 +159,7 @@ fn begin<P: Poller, F: Files, C: Clock, B: Book<Finished<P::Link, F>>, G: Gate, 
     ensures serve { All (λ row. Serves B.told P.meaning.faults shared.now row) rows.new }
     ensures seats { SeatsAreOnce known_by rows.new }
     ensures limit { map (λ row. row.runner.limit) rows.new ≡ map (λ row. row.runner.limit) rows.old }
+    ensures beats { Each KeepsOn (map (beat_of C.told) rows.old) (map (beat_of C.told) rows.new) }
 {
     // A law of seats, for the proof: it does nothing when run.
     grown_passes_hold_the_seats::<Row<P, F, C, B, G>, Lease<F>>();
@@ -172,6 +179,7 @@ fn listen<P: Poller, F: Files, C: Clock, B: Book<Finished<P::Link, F>>, G: Gate,
     requires listener { (P.Listener.told listener).failed_row ≡ 0 }
     ensures serves { Serves B.told P.meaning.faults shared.now row.new }
     ensures goes_on { HasGoneOn row.old row.new }
+    ensures on { KeepsOn (beat_of C.told row.old) (beat_of C.told row.new) }
 {
     // Nothing has stopped the dispatcher.
     row.halted = None;
@@ -220,6 +228,7 @@ where
     requires seats { SeatsAreOnce known_by rows.old }
     ensures serve { All (λ row. Serves B.told P.meaning.faults shared.now row) rows.new }
     ensures limit { All (λ row. row.runner.limit ≡ limit) rows.new }
+    ensures beats { Each KeepsOn (map (beat_of C.told) rows.old) (map (beat_of C.told) rows.new) }
     ensures level { ArePassesLevel known_by rows.new }
     ensures cause { HasCause result (OneDid B.told limit rows.new) }
     ensures ends { EndsSo known_by limit result rows.new
@@ -255,6 +264,7 @@ where
     ensures serve { All (λ row. Serves B.told P.meaning.faults shared.now row) rows.new }
     ensures seats { SeatsAreOnce known_by rows.new }
     ensures limit { map (λ row. row.runner.limit) rows.new ≡ map (λ row. row.runner.limit) rows.old }
+    ensures beats { Each KeepsOn (map (beat_of C.told) rows.old) (map (beat_of C.told) rows.new) }
 {
     // A law of seats, for the proof: it does nothing when run.
     grown_passes_hold_the_seats::<Row<P, F, C, B, G>, Lease<F>>();
@@ -264,7 +274,8 @@ where
         THREADS,
         &|_i: usize, row: &mut Row<P, F, C, B, G>| -> ()
             requires { Serves B.told P.meaning.faults shared.now row.old }
-            ensures { Serves B.told P.meaning.faults shared.entry.now row.new × HasGoneOn row.old row.new }
+            ensures { Serves B.told P.meaning.faults shared.entry.now row.new × HasGoneOn row.old row.new
+                × KeepsOn (beat_of C.told row.old) (beat_of C.told row.new) }
         { serve_row(rt, shared, row) },
     );
 }

@@ -3,11 +3,13 @@ ghost use Rattle.std.specs.Prelude.{◌≡◌, ◌+◌, ◌<◌, All, Any, IfSom
 ghost use Rattle.turn_cell.specs.Calls.{view_of};
 ghost use Rattle.turn_cell.specs.Weights.{weigh};
 ghost use Rattle.poller.specs.Faults.{PollerFaults};
+ghost use Rattle.dispatcher.specs.Stripes.{Each};
 ghost use Rattle.warp_passes.specs.Cells.{CameLevel, OwnIsKept, SeatsAreOnce};
 ghost use Rattle.warp_passes.specs.Levels.{ArePassesLevel};
 ghost use Rattle.warp_core.specs.Ends.{EndsSo, HasCause};
-ghost use Rattle.warp_core.specs.Rows.{HasGoneOn, OneDid, Serves, known_by};
+ghost use Rattle.warp_core.specs.Rows.{HasGoneOn, OneDid, Serves, beat_of, known_by};
 ghost use Rattle.warp_core.specs.Settling.{EndOf, HasLooked, SaysSo, ShowsOver};
+ghost use Rattle.warp_core.specs.SweepTimes.{KeepsOn};
 
 use crate::row::{Halted, Row};
 use crate::served::{Counts, ServeEnd};
@@ -44,6 +46,7 @@ pub(crate) fn settle<
     requires seats { SeatsAreOnce known_by rows.old }
     ensures serve { All (λ row. Serves B.told P.meaning.faults shared.now row) rows.new }
     ensures limit { All (λ row. row.runner.limit ≡ limit) rows.new }
+    ensures beats { Each KeepsOn (map (beat_of C.told) rows.old) (map (beat_of C.told) rows.new) }
     ensures seats { SeatsAreOnce known_by rows.new }
     ensures level { ArePassesLevel known_by rows.new }
     ensures cause { IfSome result (λ end. HasCause end (OneDid B.told limit rows.new)) }
@@ -70,6 +73,7 @@ fn show_over<P: Poller, F: Files, C: Clock, B: Book<Finished<P::Link, F>>, G: Ga
     requires seats { SeatsAreOnce known_by rows.old }
     ensures serve { All (λ row. Serves B.told P.meaning.faults shared.now row) rows.new }
     ensures limit { All (λ row. row.runner.limit ≡ limit) rows.new }
+    ensures beats { Each KeepsOn (map (beat_of C.told) rows.old) (map (beat_of C.told) rows.new) }
     ensures seats { SeatsAreOnce known_by rows.new }
     ensures level { ArePassesLevel known_by rows.new }
     ensures ends { ShowsOver known_by limit result rows.new }
@@ -93,6 +97,7 @@ fn bring_level<P: Poller, F: Files, C: Clock, B: Book<Finished<P::Link, F>>, G: 
     requires seats { SeatsAreOnce known_by rows.old }
     ensures serve { All (λ row. Serves B.told P.meaning.faults shared.now row) rows.new }
     ensures limit { map (λ row. row.runner.limit) rows.new ≡ map (λ row. row.runner.limit) rows.old }
+    ensures beats { Each KeepsOn (map (beat_of C.told) rows.old) (map (beat_of C.told) rows.new) }
     ensures seats { SeatsAreOnce known_by rows.new }
     ensures level { ArePassesLevel known_by rows.new }
     ensures came { CameLevel known_by rows.old rows.new }
@@ -115,6 +120,7 @@ fn look_first<P: Poller, F: Files, C: Clock, B: Book<Finished<P::Link, F>>, G: G
     requires seats { SeatsAreOnce known_by rows.old }
     ensures serve { All (λ row. Serves B.told P.meaning.faults shared.now row) rows.new }
     ensures limit { map (λ row. row.runner.limit) rows.new ≡ map (λ row. row.runner.limit) rows.old }
+    ensures beats { Each KeepsOn (map (beat_of C.told) rows.old) (map (beat_of C.told) rows.new) }
     ensures seats { SeatsAreOnce known_by rows.new }
     ensures looked { HasLooked known_by limit result rows.old rows.new }
 {
@@ -135,6 +141,7 @@ fn look_for_over<P: Poller, F: Files, C: Clock, B: Book<Finished<P::Link, F>>, G
     requires { Serves B.told P.meaning.faults shared.now row.old }
     ensures serves { Serves B.told P.meaning.faults shared.now row.new }
     ensures goes_on { HasGoneOn row.old row.new }
+    ensures on { KeepsOn (beat_of C.told row.old) (beat_of C.told row.new) }
     ensures says { SaysSo limit result (view_of row.old.runner.tallied) (view_of row.new.runner.tallied) }
 {
     // Lets the contract speak of it.

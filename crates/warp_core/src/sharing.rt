@@ -18,7 +18,7 @@ impl<P: Poller, F: Files, C: Clock, B: Book<Finished<P::Link, F>>, G: Gate> Shar
     ghost meaning = { record {
       passes = meaning_by known_by IsRowOf;
       beside = Beside;
-      rest = λ row. beside_of B.told P.meaning.faults row;
+      rest = λ row. beside_of B.told P.meaning.faults C.told row;
     } };
 
     fn share_row(

@@ -2,7 +2,8 @@
 ghost use Rattle.std.specs.Prelude.{IfSome};
 ghost use Rattle.poller.specs.Faults.{PollerFaults};
 ghost use Rattle.warp_core.specs.Beats.{BeginsWithBeat};
-ghost use Rattle.warp_core.specs.Rows.{HasGoneOn, MayHalt, Serves};
+ghost use Rattle.warp_core.specs.Rows.{HasGoneOn, MayHalt, Serves, beat_of};
+ghost use Rattle.warp_core.specs.SweepTimes.{KeepsOn};
 
 use crate::beat::beat;
 use crate::row::{Halted, Row};
@@ -39,6 +40,7 @@ pub(crate) fn serve_row<
     requires { Serves B.told P.meaning.faults shared.now row.old }
     ensures serves { Serves B.told P.meaning.faults shared.now row.new }
     ensures goes_on { HasGoneOn row.old row.new }
+    ensures on { KeepsOn (beat_of C.told row.old) (beat_of C.told row.new) }
 {
     for _ in rt.forever() {
         if !makes_a_round(rt, shared, row) {
@@ -56,6 +58,7 @@ fn makes_a_round<P: Poller, F: Files, C: Clock, B: Book<Finished<P::Link, F>>, G
     requires { Serves B.told P.meaning.faults shared.now row.old }
     ensures serves { Serves B.told P.meaning.faults shared.now row.new }
     ensures goes_on { HasGoneOn row.old row.new }
+    ensures on { KeepsOn (beat_of C.told row.old) (beat_of C.told row.new) }
     ensures beats { BeginsWithBeat C.told row.old row.new }
 {
     if let Some(halted) = beat(rt, shared, row) {
@@ -81,6 +84,7 @@ fn goes_on<P: Poller, F: Files, C: Clock, B: Book<Finished<P::Link, F>>, G: Gate
     requires { Serves B.told P.meaning.faults shared.now row.old }
     ensures serves { Serves B.told P.meaning.faults shared.now row.new }
     ensures goes_on { HasGoneOn row.old row.new }
+    ensures on { KeepsOn (beat_of C.told row.old) (beat_of C.told row.new) }
 {
     match turn_once(rt, shared, row) {
         None => true,
@@ -100,6 +104,7 @@ fn turn_once<P: Poller, F: Files, C: Clock, B: Book<Finished<P::Link, F>>, G: Ga
     requires { Serves B.told P.meaning.faults shared.now row.old }
     ensures serves { Serves B.told P.meaning.faults shared.now row.new }
     ensures goes_on { HasGoneOn row.old row.new }
+    ensures on { KeepsOn (beat_of C.told row.old) (beat_of C.told row.new) }
     ensures may_halt { IfSome result (λ halted. MayHalt B.told P.meaning.faults row.new halted) }
 {
     row.reports.clear();
@@ -135,6 +140,7 @@ pub(crate) fn halt<P: Poller, F: Files, C: Clock, B: Book<Finished<P::Link, F>>,
     requires may_halt { MayHalt B.told P.meaning.faults row.old halted }
     ensures serves { Serves B.told P.meaning.faults shared.now row.new }
     ensures goes_on { HasGoneOn row.old row.new }
+    ensures on { KeepsOn (beat_of C.told row.old) (beat_of C.told row.new) }
 {
     // Lets the contract speak of it.
     let _shared = shared;
@@ -163,6 +169,7 @@ fn look<P: Poller, F: Files, C: Clock, B: Book<Finished<P::Link, F>>, G: Gate, R
     requires { Serves B.told P.meaning.faults shared.now row.old }
     ensures serves { Serves B.told P.meaning.faults shared.now row.new }
     ensures goes_on { HasGoneOn row.old row.new }
+    ensures on { KeepsOn (beat_of C.told row.old) (beat_of C.told row.new) }
 {
     // Lets the contract speak of it.
     let _shared = shared;

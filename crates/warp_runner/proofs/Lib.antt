@@ -10,3 +10,4 @@ mod AcceptLemmas
 mod Running
 mod TimingOut
 mod SweptOnce
+mod NeverSweeps

@@ -1,5 +1,5 @@
 -- A sweep makes one call that is a sweep, and what follows of it makes none.
-use Rattle.std.proofs.Common.{◌≡◌, ℕ, ◌+◌, List, [], ◌∷◌, ◌++◌, ⊎_elim, sym, refl, ap, ◌∙◌, subst, inl, inr}
+use Rattle.std.proofs.Common.{◌≡◌, ℕ, ◌+◌, List, [], ◌∷◌, ◌++◌, ap, ◌∙◌, inl, inr}
 use Rattle.std.proofs.Common.{arith}
 use Rattle.std.specs.Prelude.{◌⊎◌, Option, None}
 use Rattle.turn_cell.specs.Weights.{weigh}
@@ -17,10 +17,10 @@ use Rattle.warp_runner.specs.Deeds.{AreCancels, InTurn, IsHanding, IsLetGo, IsPa
 use Rattle.warp_runner.specs.Deeds.{IsTimingOut}
 use Rattle.warp_runner.specs.Sweeps.{HasSweptOnce, is_sweep}
 
-abbrev swept_in : Acts → ℕ
+abbrev pub swept_in : Acts → ℕ
 swept_in a = weigh is_sweep a.timed
 
-swept_then : (acts a b : Acts) → acts ≡ then a b → swept_in acts ≡ swept_in a + swept_in b
+pub swept_then : (acts a b : Acts) → acts ≡ then a b → swept_in acts ≡ swept_in a + swept_in b
 swept_then acts a b is =
     let e = ap (λ (x : Acts). swept_in x) is in
     let w = weigh-append is_sweep a.timed b.timed in
@@ -40,12 +40,12 @@ cancels_none w (c ∷ cs) (inr p) =
     let a = ap is_sweep p.0 in
     let b = cancels_none w cs p.1 in omega arith
 
-handing_none : (h : FinishedTold) (acts : Acts) (stopped : Option ℕ) → IsHanding h acts stopped
+pub handing_none : (h : FinishedTold) (acts : Acts) (stopped : Option ℕ) → IsHanding h acts stopped
     → swept_in acts ≡ 0
 handing_none h acts stopped (inl p) = ap (λ (x : Acts). swept_in x) p.1
 handing_none h acts stopped (inr p) = ap (λ (x : Acts). swept_in x) p.0
 
-parting_none : (w : WatchName) (h : FinishedTold) (acts : Acts) (stopped : Option ℕ)
+pub parting_none : (w : WatchName) (h : FinishedTold) (acts : Acts) (stopped : Option ℕ)
     → IsParting w h acts stopped → swept_in acts ≡ 0
 parting_none w h acts stopped p =
     let a = ap (λ (x : Acts). swept_in x) p.4 in

@@ -1,6 +1,6 @@
 -- Inner: laws that crates above cite: with which codes deeds stop a dispatcher, and what those did
 -- that stopped it with one of them.
-use Rattle.std.proofs.Common.{◌≡◌, ℕ, List, [], ◌∷◌, ⊎_elim, inl, inr, sym, refl, ◌∙◌, subst, arith}
+use Rattle.std.proofs.Common.{◌≡◌, ℕ, List, [], ◌∷◌, ⊎_elim, inl, inr, sym, ◌∙◌, subst, arith}
 use Rattle.std.specs.Prelude.{◌⊎◌, Option, Some, None}
 use Rattle.std.proofs.lemmas.Option.{none-some, same_Some}
 use Rattle.reg_keys.specs.declared.opening.Opening.{Opening}
@@ -30,7 +30,7 @@ use Rattle.warp_jobs.specs.Tags.{listen_tag}
 use Rattle.warp_runner.specs.Acts.{Acts, ServeTold, called, then, watched}
 use Rattle.warp_runner.specs.Deeds.{Halts, InTurn, IsAdmitting, IsBeginning, IsConnectionRun, IsEnding}
 use Rattle.warp_runner.specs.Deeds.{IsEndingBare, IsEntering, IsFailing, IsGoingOn, IsHanding, IsLeaving}
-use Rattle.warp_runner.specs.Deeds.{IsLetGo, IsListenerRun, IsListening, IsParting, IsRegistering}
+use Rattle.warp_runner.specs.Deeds.{IsLetGo, IsListening, IsParting, IsRegistering}
 use Rattle.warp_runner.specs.Deeds.{IsStartFault, IsStarting, IsStartingAt, IsSweeping, IsTakingLink}
 use Rattle.warp_runner.specs.Deeds.{IsTimingOut, IsTurningAway, IsUnmade, accept_fault, no_memory, poll_fault}
 use Rattle.warp_runner.specs.Deeds.{spent, unserved}

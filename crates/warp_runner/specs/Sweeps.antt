@@ -1,5 +1,5 @@
 -- To be believed: how often a dispatcher swept.
-use Rattle.std.specs.Prelude.{◌≡◌, ℕ, List, [], ◌∷◌, ◌++◌}
+use Rattle.std.specs.Prelude.{◌≡◌, ℕ, List, ◌∷◌, ◌++◌}
 use Rattle.turn_cell.specs.Weights.{weigh}
 use Rattle.reg_keys.specs.declared.opening.Opening.{Opening}
 use Rattle.timeout_mgr.specs.declared.view.TimeCall.{TimeCall}

@@ -59,6 +59,7 @@ impl<P: Poller, F: Files, C: Clock, B: Book<Finished<P::Link, F>>, G: Gate> Serv
             (view_of self.new.tallied) (seen_of self.new.timed) (B.told self.new.book))
             × IsListenerRun self.old.limit listening.value marks acts result.stopped }
         ensures same { (self.new.shared ≡ self.old.shared) × (self.new.limit ≡ self.old.limit) }
+        ensures clock { self.new.clock ≡ self.old.clock }
         ensures stays { HaveGrown (view_of self.old.cached) (view_of self.new.cached)
             (view_of self.old.tallied) (view_of self.new.tallied)
             × LeavesPolls P.meaning self.old.poller self.new.poller }
@@ -98,6 +99,7 @@ impl<P: Poller, F: Files, C: Clock, B: Book<Finished<P::Link, F>>, G: Gate> Serv
             (view_of self.new.tallied) (seen_of self.new.timed) (B.told self.new.book))
             × IsTakingLink self.old.limit listening.value acts result.stopped }
         ensures same { (self.new.shared ≡ self.old.shared) × (self.new.limit ≡ self.old.limit) }
+        ensures clock { self.new.clock ≡ self.old.clock }
         ensures stays { HaveGrown (view_of self.old.cached) (view_of self.new.cached)
             (view_of self.old.tallied) (view_of self.new.tallied)
             × LeavesPolls P.meaning self.old.poller self.new.poller }
@@ -140,6 +142,7 @@ impl<P: Poller, F: Files, C: Clock, B: Book<Finished<P::Link, F>>, G: Gate> Serv
             (view_of self.new.tallied) (seen_of self.new.timed) (B.told self.new.book))
             × IsGoingOn self.old.limit listening.value acts result.stopped }
         ensures same { (self.new.shared ≡ self.old.shared) × (self.new.limit ≡ self.old.limit) }
+        ensures clock { self.new.clock ≡ self.old.clock }
         ensures stays { HaveGrown (view_of self.old.cached) (view_of self.new.cached)
             (view_of self.old.tallied) (view_of self.new.tallied)
             × LeavesPolls P.meaning self.old.poller self.new.poller }
@@ -176,6 +179,7 @@ impl<P: Poller, F: Files, C: Clock, B: Book<Finished<P::Link, F>>, G: Gate> Serv
             (view_of self.new.tallied) (seen_of self.new.timed) (B.told self.new.book))
             × IsFailing listening.value acts result.stopped }
         ensures same { (self.new.shared ≡ self.old.shared) × (self.new.limit ≡ self.old.limit) }
+        ensures clock { self.new.clock ≡ self.old.clock }
         ensures stays { HaveGrown (view_of self.old.cached) (view_of self.new.cached)
             (view_of self.old.tallied) (view_of self.new.tallied)
             × LeavesPolls P.meaning self.old.poller self.new.poller }
@@ -213,6 +217,7 @@ impl<P: Poller, F: Files, C: Clock, B: Book<Finished<P::Link, F>>, G: Gate> Serv
             (view_of self.new.tallied) (seen_of self.new.timed) (B.told self.new.book))
             × IsLeaving listening.value acts result.stopped }
         ensures same { (self.new.shared ≡ self.old.shared) × (self.new.limit ≡ self.old.limit) }
+        ensures clock { self.new.clock ≡ self.old.clock }
         ensures stays { HaveGrown (view_of self.old.cached) (view_of self.new.cached)
             (view_of self.old.tallied) (view_of self.new.tallied)
             × LeavesPolls P.meaning self.old.poller self.new.poller }
@@ -251,6 +256,8 @@ impl<P: Poller, F: Files, C: Clock, B: Book<Finished<P::Link, F>>, G: Gate> Serv
             (view_of self.new.tallied) (seen_of self.new.timed) (B.told self.new.book))
             × IsListening listening.value mark acts result.stopped }
         ensures same { (self.new.shared ≡ self.old.shared) × (self.new.limit ≡ self.old.limit) }
+        ensures clock { self.new.clock ≡ self.old.clock }
+        ensures timed { self.new.timed ≡ self.old.timed }
         ensures stays { HaveGrown (view_of self.old.cached) (view_of self.new.cached)
             (view_of self.old.tallied) (view_of self.new.tallied)
             × LeavesPolls P.meaning self.old.poller self.new.poller }
@@ -290,6 +297,7 @@ impl<P: Poller, F: Files, C: Clock, B: Book<Finished<P::Link, F>>, G: Gate> Serv
             (view_of self.new.tallied) (seen_of self.new.timed) (B.told self.new.book))
             × IsBeginning acts result.stopped }
         ensures same { (self.new.shared ≡ self.old.shared) × (self.new.limit ≡ self.old.limit) }
+        ensures clock { self.new.clock ≡ self.old.clock }
         ensures stays { HaveGrown (view_of self.old.cached) (view_of self.new.cached)
             (view_of self.old.tallied) (view_of self.new.tallied)
             × LeavesPolls P.meaning self.old.poller self.new.poller }
@@ -319,6 +327,7 @@ impl<P: Poller, F: Files, C: Clock, B: Book<Finished<P::Link, F>>, G: Gate> Serv
             [] (told_of v (view_of self.new.tallied) (seen_of self.new.timed) (B.told self.new.book)))
             × IsTurningAway acts result.stopped }
         ensures same { (self.new.shared ≡ self.old.shared) × (self.new.limit ≡ self.old.limit) }
+        ensures clock { self.new.clock ≡ self.old.clock }
         ensures stays { HaveGrown (view_of self.old.cached) (view_of self.new.cached)
             (view_of self.old.tallied) (view_of self.new.tallied)
             × LeavesPolls P.meaning self.old.poller self.new.poller }
@@ -358,6 +367,7 @@ impl<P: Poller, F: Files, C: Clock, B: Book<Finished<P::Link, F>>, G: Gate> Serv
             (view_of self.new.tallied) (seen_of self.new.timed) (B.told self.new.book))
             × IsAdmitting opening acts result.stopped }
         ensures same { (self.new.shared ≡ self.old.shared) × (self.new.limit ≡ self.old.limit) }
+        ensures clock { self.new.clock ≡ self.old.clock }
         ensures stays { HaveGrown (view_of self.old.cached) (view_of self.new.cached)
             (view_of self.old.tallied) (view_of self.new.tallied)
             × LeavesPolls P.meaning self.old.poller self.new.poller }
@@ -401,6 +411,7 @@ impl<P: Poller, F: Files, C: Clock, B: Book<Finished<P::Link, F>>, G: Gate> Serv
             (view_of self.new.tallied) (seen_of self.new.timed) (B.told self.new.book))
             × IsEntering opening acts result.stopped }
         ensures same { (self.new.shared ≡ self.old.shared) × (self.new.limit ≡ self.old.limit) }
+        ensures clock { self.new.clock ≡ self.old.clock }
         ensures stays { HaveGrown (view_of self.old.cached) (view_of self.new.cached)
             (view_of self.old.tallied) (view_of self.new.tallied)
             × LeavesPolls P.meaning self.old.poller self.new.poller }

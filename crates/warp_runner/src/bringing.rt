@@ -7,6 +7,7 @@ ghost use Rattle.conn_loop.specs.Supplies.{Supplies};
 ghost use Rattle.dispatcher.specs.Runs.{LeavesPolls};
 ghost use Rattle.dispatcher.specs.Stripes.{HasGrown};
 ghost use Rattle.warp_runner.specs.Acts.{AreOfCells, HaveGrown};
+ghost use Rattle.warp_runner.specs.Asking.{HasAsked};
 ghost use Rattle.warp_runner.specs.Leases.{HasGivenBack, way_of};
 ghost use Rattle.warp_runner.specs.Runs.{HasBrought};
 ghost use Rattle.warp_runner.specs.declared.bringing.Brought.TheVariants.{Spent};
@@ -58,6 +59,7 @@ impl<P: Poller, F: Files, C: Clock, B: Book<Finished<P::Link, F>>, G: Gate> Serv
             (arc_value self.new.shared).tally self.new.tallied }
         ensures brought { HasBrought result session.old session.new }
         ensures same { (self.new.shared ≡ self.old.shared) × (self.new.limit ≡ self.old.limit) }
+        ensures asked { HasAsked (C.told self.old.clock) (C.told self.new.clock) }
         ensures grown { HasGrown (view_of self.old.cached) (view_of self.new.cached) }
         ensures rest { (self.new.timed ≡ self.old.timed) × (self.new.tallied ≡ self.old.tallied)
             × (self.new.poller ≡ self.old.poller) × (self.new.book ≡ self.old.book) }
@@ -96,6 +98,7 @@ impl<P: Poller, F: Files, C: Clock, B: Book<Finished<P::Link, F>>, G: Gate> Serv
         ensures gave { HasGivenBack lease Released (view_of self.old.cached) (view_of self.new.cached)
             ⊎ (result ≡ Spent) }
         ensures same { (self.new.shared ≡ self.old.shared) × (self.new.limit ≡ self.old.limit) }
+        ensures clock { self.new.clock ≡ self.old.clock }
         ensures grown { HasGrown (view_of self.old.cached) (view_of self.new.cached) }
         ensures rest { (self.new.timed ≡ self.old.timed) × (self.new.tallied ≡ self.old.tallied)
             × (self.new.poller ≡ self.old.poller) × (self.new.book ≡ self.old.book) }
@@ -120,6 +123,7 @@ impl<P: Poller, F: Files, C: Clock, B: Book<Finished<P::Link, F>>, G: Gate> Serv
             (arc_value self.new.shared).cache self.new.cached
             (arc_value self.new.shared).tally self.new.tallied }
         ensures same { (self.new.shared ≡ self.old.shared) × (self.new.limit ≡ self.old.limit) }
+        ensures clock { self.new.clock ≡ self.old.clock }
         ensures grown { HasGrown (view_of self.old.cached) (view_of self.new.cached) }
         ensures rest { (self.new.timed ≡ self.old.timed) × (self.new.tallied ≡ self.old.tallied)
             × (self.new.poller ≡ self.old.poller) × (self.new.book ≡ self.old.book) }
@@ -146,6 +150,7 @@ impl<P: Poller, F: Files, C: Clock, B: Book<Finished<P::Link, F>>, G: Gate> Serv
             (arc_value self.new.shared).cache self.new.cached
             (arc_value self.new.shared).tally self.new.tallied }
         ensures same { (self.new.shared ≡ self.old.shared) × (self.new.limit ≡ self.old.limit) }
+        ensures clock { self.new.clock ≡ self.old.clock }
         ensures stays { HaveGrown (view_of self.old.cached) (view_of self.new.cached)
             (view_of self.old.tallied) (view_of self.new.tallied)
             × LeavesPolls P.meaning self.old.poller self.new.poller }
@@ -179,6 +184,7 @@ impl<P: Poller, F: Files, C: Clock, B: Book<Finished<P::Link, F>>, G: Gate> Serv
         ensures there { IfOk result
             (λ got. Supplies F.folder (λ lease. F.file_path lease.file) path.now got) }
         ensures same { (self.new.shared ≡ self.old.shared) × (self.new.limit ≡ self.old.limit) }
+        ensures clock { self.new.clock ≡ self.old.clock }
         ensures grown { HasGrown (view_of self.old.cached) (view_of self.new.cached) }
         ensures rest { (self.new.timed ≡ self.old.timed) × (self.new.tallied ≡ self.old.tallied)
             × (self.new.poller ≡ self.old.poller) × (self.new.book ≡ self.old.book) }
@@ -206,6 +212,7 @@ impl<P: Poller, F: Files, C: Clock, B: Book<Finished<P::Link, F>>, G: Gate> Serv
         ensures there { IfOk result
             (λ got. Supplies F.folder (λ lease. F.file_path lease.file) path.now got) }
         ensures same { (self.new.shared ≡ self.old.shared) × (self.new.limit ≡ self.old.limit) }
+        ensures clock { self.new.clock ≡ self.old.clock }
         ensures grown { HasGrown (view_of self.old.cached) (view_of self.new.cached) }
         ensures rest { (self.new.timed ≡ self.old.timed) × (self.new.tallied ≡ self.old.tallied)
             × (self.new.poller ≡ self.old.poller) × (self.new.book ≡ self.old.book) }

@@ -62,6 +62,7 @@ impl<P: Poller, F: Files, C: Clock, B: Book<Finished<P::Link, F>>, G: Gate> Serv
             (view_of self.new.tallied) (seen_of self.new.timed) (B.told self.new.book))
             × IsEnding session.watch (finished_held session end) acts result }
         ensures same { (self.new.shared ≡ self.old.shared) × (self.new.limit ≡ self.old.limit) }
+        ensures clock { self.new.clock ≡ self.old.clock }
         ensures stays { HaveGrown (view_of self.old.cached) (view_of self.new.cached)
             (view_of self.old.tallied) (view_of self.new.tallied)
             × LeavesPolls P.meaning self.old.poller self.new.poller }
@@ -97,6 +98,7 @@ impl<P: Poller, F: Files, C: Clock, B: Book<Finished<P::Link, F>>, G: Gate> Serv
         ensures gave { GaveBackWhatItHeld session.conn result (view_of self.old.cached)
             (view_of self.new.cached) }
         ensures same { (self.new.shared ≡ self.old.shared) × (self.new.limit ≡ self.old.limit) }
+        ensures clock { self.new.clock ≡ self.old.clock }
         ensures stays { HaveGrown (view_of self.old.cached) (view_of self.new.cached)
             (view_of self.old.tallied) (view_of self.new.tallied)
             × LeavesPolls P.meaning self.old.poller self.new.poller }
@@ -138,6 +140,7 @@ impl<P: Poller, F: Files, C: Clock, B: Book<Finished<P::Link, F>>, G: Gate> Serv
             (view_of self.new.tallied) (seen_of self.new.timed) (B.told self.new.book))
             × IsEndingBare (unserved opening (P.Link.told link) end) acts result }
         ensures same { (self.new.shared ≡ self.old.shared) × (self.new.limit ≡ self.old.limit) }
+        ensures clock { self.new.clock ≡ self.old.clock }
         ensures stays { HaveGrown (view_of self.old.cached) (view_of self.new.cached)
             (view_of self.old.tallied) (view_of self.new.tallied)
             × LeavesPolls P.meaning self.old.poller self.new.poller }
@@ -170,6 +173,7 @@ impl<P: Poller, F: Files, C: Clock, B: Book<Finished<P::Link, F>>, G: Gate> Serv
             (P.Link.told done.link) done.moments.items done.bytes done.waits done.end) acts result }
         ensures cached { self.new.cached ≡ self.old.cached }
         ensures same { (self.new.shared ≡ self.old.shared) × (self.new.limit ≡ self.old.limit) }
+        ensures clock { self.new.clock ≡ self.old.clock }
         ensures stays { HaveGrown (view_of self.old.cached) (view_of self.new.cached)
             (view_of self.old.tallied) (view_of self.new.tallied)
             × LeavesPolls P.meaning self.old.poller self.new.poller }

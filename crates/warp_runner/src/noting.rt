@@ -41,6 +41,8 @@ impl<P: Poller, F: Files, C: Clock, B: Book<Finished<P::Link, F>>, G: Gate> Serv
             → FitsUntil self.new.limit stop
             (told_of v (view_of self.new.tallied) (seen_of self.new.timed) (B.told self.new.book)) jobs }
         ensures same { (self.new.shared ≡ self.old.shared) × (self.new.limit ≡ self.old.limit) }
+        ensures clock { self.new.clock ≡ self.old.clock }
+        ensures timed { self.new.timed ≡ self.old.timed }
         ensures stays { HaveGrown (view_of self.old.cached) (view_of self.new.cached)
             (view_of self.old.tallied) (view_of self.new.tallied)
             × LeavesPolls P.meaning self.old.poller self.new.poller }
@@ -65,6 +67,8 @@ impl<P: Poller, F: Files, C: Clock, B: Book<Finished<P::Link, F>>, G: Gate> Serv
             → FitsUntil self.new.limit stop
             (told_of v (view_of self.new.tallied) (seen_of self.new.timed) (B.told self.new.book)) jobs }
         ensures same { (self.new.shared ≡ self.old.shared) × (self.new.limit ≡ self.old.limit) }
+        ensures clock { self.new.clock ≡ self.old.clock }
+        ensures timed { self.new.timed ≡ self.old.timed }
         ensures stays { HaveGrown (view_of self.old.cached) (view_of self.new.cached)
             (view_of self.old.tallied) (view_of self.new.tallied)
             × LeavesPolls P.meaning self.old.poller self.new.poller }

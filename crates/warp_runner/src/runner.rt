@@ -59,6 +59,8 @@ impl<P: Poller, F: Files, C: Clock, B: Book<Finished<P::Link, F>>, G: Gate> Runn
     ghost use Rattle.timeout_mgr.specs.Calls.{view_of as seen_of};
     ghost use Rattle.warp_jobs.specs.Tags.{tag_of};
     ghost use Rattle.warp_runner.specs.Acts.{AreOfCells, HaveGrown, told_of};
+    ghost use Rattle.timeout_mgr.specs.Passes.{calls_of};
+    ghost use Rattle.warp_runner.specs.Asking.{HasAsked, HasNotSwept, asked_none, asked_then};
     ghost use Rattle.warp_runner.specs.Journal.{FitsUntil};
     ghost use Rattle.warp_runner.specs.JournalLaws.{fits_report, fits_dispatch, grown_none, grown_then, same_trans};
 
@@ -70,7 +72,9 @@ impl<P: Poller, F: Files, C: Clock, B: Book<Finished<P::Link, F>>, G: Gate> Runn
           (arc_value r.shared).tally r.tallied)
           × FitsUntil r.limit r.stop (told_of v (view_of r.tallied) (seen_of r.timed) (B.told r.book)) jobs;
       keeps = λ r s. (s.shared ≡ r.shared) × (s.limit ≡ r.limit)
-          × HaveGrown (view_of r.cached) (view_of s.cached) (view_of r.tallied) (view_of s.tallied);
+          × HaveGrown (view_of r.cached) (view_of s.cached) (view_of r.tallied) (view_of s.tallied)
+          × HasAsked (C.told r.clock) (C.told s.clock)
+          × HasNotSwept (calls_of (seen_of r.timed)) (calls_of (seen_of s.timed));
       stop = λ r. r.stop;
       runs = λ r. untold;
       shuts = λ r. untold;
@@ -110,10 +114,15 @@ impl<P: Poller, F: Files, C: Clock, B: Book<Finished<P::Link, F>>, G: Gate> Runn
       lent_stop = λ r p. refl;
       lent_runs = λ r p. refl;
       lent_shuts = λ r p. refl;
-      keeps_same = λ r. (refl, refl, grown_none _ _);
-      keeps_on = λ r s t a b.
-          (same_trans _ _ _ a.0 b.0, same_trans _ _ _ a.1 b.1, grown_then _ _ _ _ _ _ a.2 b.2);
-      keeps_polled = λ r idle result out p h. (refl, refl, grown_none _ _);
+      keeps_same = λ r. (refl, refl, grown_none _ _, asked_none _, refl);
+      keeps_on = λ r s t a b. (
+        same_trans _ _ _ a.0 b.0,
+        same_trans _ _ _ a.1 b.1,
+        grown_then _ _ _ _ _ _ a.2 b.2,
+        asked_then _ _ _ a.3 b.3,
+        same_trans _ _ _ a.4 b.4,
+      );
+      keeps_polled = λ r idle result out p h. (refl, refl, grown_none _ _, asked_none _, refl);
       fits_polled = λ r idle result out p v jobs h f. f;
       fits_reported = λ r o ds v reply w jobs lv lw h f. (
         f.0,

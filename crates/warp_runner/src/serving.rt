@@ -11,6 +11,7 @@ ghost use Rattle.dispatcher.specs.Entries.{Firing};
 ghost use Rattle.dispatcher.specs.Runs.{LeavesPolls, code_of, events_of, pair_of};
 ghost use Rattle.warp_jobs.specs.Tags.{tag_of};
 ghost use Rattle.warp_runner.specs.Acts.{Acts, AreOfCells, Did, HaveGrown, told_of, watched};
+ghost use Rattle.warp_runner.specs.Asking.{HasAsked};
 ghost use Rattle.warp_runner.specs.Deeds.{IsConnectionRun, IsRegistering, end_of_shut, mark_at};
 ghost use Rattle.warp_runner.specs.Runs.{HasRun, NamesOne, IsServing, held_in, named};
 
@@ -116,6 +117,7 @@ impl<P: Poller, F: Files, C: Clock, B: Book<Finished<P::Link, F>>, G: Gate> Serv
             (B.told self.old.book)) (named result) result.stopped (told_of (mgr_view pass.new)
             (view_of self.new.tallied) (seen_of self.new.timed) (B.told self.new.book)) }
         ensures same { (self.new.shared ≡ self.old.shared) × (self.new.limit ≡ self.old.limit) }
+        ensures asked { HasAsked (C.told self.old.clock) (C.told self.new.clock) }
         ensures stays { HaveGrown (view_of self.old.cached) (view_of self.new.cached)
             (view_of self.old.tallied) (view_of self.new.tallied)
             × LeavesPolls P.meaning self.old.poller self.new.poller }
@@ -151,6 +153,7 @@ impl<P: Poller, F: Files, C: Clock, B: Book<Finished<P::Link, F>>, G: Gate> Serv
             × IsConnectionRun session.value marks acts result.stopped }
         ensures counted { session.value.conn.waits ≡ session.value.number }
         ensures same { (self.new.shared ≡ self.old.shared) × (self.new.limit ≡ self.old.limit) }
+        ensures asked { HasAsked (C.told self.old.clock) (C.told self.new.clock) }
         ensures stays { HaveGrown (view_of self.old.cached) (view_of self.new.cached)
             (view_of self.old.tallied) (view_of self.new.tallied)
             × LeavesPolls P.meaning self.old.poller self.new.poller }
@@ -199,6 +202,7 @@ impl<P: Poller, F: Files, C: Clock, B: Book<Finished<P::Link, F>>, G: Gate> Serv
             (view_of self.new.tallied) (seen_of self.new.timed) (B.told self.new.book))
             × IsRegistering session.value dir mark acts result.stopped }
         ensures same { (self.new.shared ≡ self.old.shared) × (self.new.limit ≡ self.old.limit) }
+        ensures clock { self.new.clock ≡ self.old.clock }
         ensures stays { HaveGrown (view_of self.old.cached) (view_of self.new.cached)
             (view_of self.old.tallied) (view_of self.new.tallied)
             × LeavesPolls P.meaning self.old.poller self.new.poller }
@@ -232,6 +236,7 @@ impl<P: Poller, F: Files, C: Clock, B: Book<Finished<P::Link, F>>, G: Gate> Serv
             (arc_value self.new.shared).cache self.new.cached
             (arc_value self.new.shared).tally self.new.tallied }
         ensures same { (self.new.shared ≡ self.old.shared) × (self.new.limit ≡ self.old.limit) }
+        ensures clock { self.new.clock ≡ self.old.clock }
         ensures did { (v : MgrView)
             → Did (told_of v (view_of self.old.tallied) (seen_of self.old.timed) (B.told self.old.book))
             (watched (Tickle session.now.watch result ∷ []))

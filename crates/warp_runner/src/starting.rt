@@ -60,6 +60,8 @@ impl<P: Poller, F: Files, C: Clock, B: Book<Finished<P::Link, F>>, G: Gate> Serv
             (told_of (mgr_view pass.new) (view_of self.new.tallied) (seen_of self.new.timed)
             (B.told self.new.book)) jobs }
         ensures same { (self.new.shared ≡ self.old.shared) × (self.new.limit ≡ self.old.limit) }
+        ensures clock { self.new.clock ≡ self.old.clock }
+        ensures timed { self.new.timed ≡ self.old.timed }
         ensures stays { HaveGrown (view_of self.old.cached) (view_of self.new.cached)
             (view_of self.old.tallied) (view_of self.new.tallied)
             × (P.meaning.polled self.new.poller ≡ P.meaning.polled self.old.poller) }
@@ -98,6 +100,8 @@ impl<P: Poller, F: Files, C: Clock, B: Book<Finished<P::Link, F>>, G: Gate> Serv
             (view_of self.new.tallied) (seen_of self.new.timed) (B.told self.new.book))
             × IsStarting (P.Listener.told listener) acts result.stopped }
         ensures same { (self.new.shared ≡ self.old.shared) × (self.new.limit ≡ self.old.limit) }
+        ensures clock { self.new.clock ≡ self.old.clock }
+        ensures timed { self.new.timed ≡ self.old.timed }
         ensures stays { HaveGrown (view_of self.old.cached) (view_of self.new.cached)
             (view_of self.old.tallied) (view_of self.new.tallied)
             × (P.meaning.polled self.new.poller ≡ P.meaning.polled self.old.poller) }
@@ -137,6 +141,8 @@ impl<P: Poller, F: Files, C: Clock, B: Book<Finished<P::Link, F>>, G: Gate> Serv
             (view_of self.new.tallied) (seen_of self.new.timed) (B.told self.new.book))
             × IsStartingAt opening (P.Listener.told listener) acts result.stopped }
         ensures same { (self.new.shared ≡ self.old.shared) × (self.new.limit ≡ self.old.limit) }
+        ensures clock { self.new.clock ≡ self.old.clock }
+        ensures timed { self.new.timed ≡ self.old.timed }
         ensures stays { HaveGrown (view_of self.old.cached) (view_of self.new.cached)
             (view_of self.old.tallied) (view_of self.new.tallied)
             × (P.meaning.polled self.new.poller ≡ P.meaning.polled self.old.poller) }

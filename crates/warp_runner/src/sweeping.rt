@@ -63,6 +63,7 @@ impl<P: Poller, F: Files, C: Clock, B: Book<Finished<P::Link, F>>, G: Gate> Serv
             (B.told self.old.book)) jobs → FitsUntil self.new.limit result (told_of (mgr_view pass.new)
             (view_of self.new.tallied) (seen_of self.new.timed) (B.told self.new.book)) jobs }
         ensures same { (self.new.shared ≡ self.old.shared) × (self.new.limit ≡ self.old.limit) }
+        ensures clock { self.new.clock ≡ self.old.clock }
         ensures stays { HaveGrown (view_of self.old.cached) (view_of self.new.cached)
             (view_of self.old.tallied) (view_of self.new.tallied)
             × LeavesPolls P.meaning self.old.poller self.new.poller }
@@ -97,6 +98,7 @@ impl<P: Poller, F: Files, C: Clock, B: Book<Finished<P::Link, F>>, G: Gate> Serv
             (view_of self.new.tallied) (seen_of self.new.timed) (B.told self.new.book))
             × InTurn IsTimingOut expired.old acts result }
         ensures same { (self.new.shared ≡ self.old.shared) × (self.new.limit ≡ self.old.limit) }
+        ensures clock { self.new.clock ≡ self.old.clock }
         ensures stays { HaveGrown (view_of self.old.cached) (view_of self.new.cached)
             (view_of self.old.tallied) (view_of self.new.tallied)
             × LeavesPolls P.meaning self.old.poller self.new.poller }
@@ -134,6 +136,7 @@ impl<P: Poller, F: Files, C: Clock, B: Book<Finished<P::Link, F>>, G: Gate> Serv
             (view_of self.new.tallied) (seen_of self.new.timed) (B.told self.new.book))
             × IsTimingOut opening acts result }
         ensures same { (self.new.shared ≡ self.old.shared) × (self.new.limit ≡ self.old.limit) }
+        ensures clock { self.new.clock ≡ self.old.clock }
         ensures stays { HaveGrown (view_of self.old.cached) (view_of self.new.cached)
             (view_of self.old.tallied) (view_of self.new.tallied)
             × LeavesPolls P.meaning self.old.poller self.new.poller }
@@ -162,6 +165,7 @@ impl<P: Poller, F: Files, C: Clock, B: Book<Finished<P::Link, F>>, G: Gate> Serv
             [] (told_of v (view_of self.new.tallied) (seen_of self.new.timed) (B.told self.new.book)))
             × InTurn IsLetGo (map (shut_key (λ job. tag_of job)) list) acts result }
         ensures same { (self.new.shared ≡ self.old.shared) × (self.new.limit ≡ self.old.limit) }
+        ensures clock { self.new.clock ≡ self.old.clock }
         ensures stays { HaveGrown (view_of self.old.cached) (view_of self.new.cached)
             (view_of self.old.tallied) (view_of self.new.tallied)
             × LeavesPolls P.meaning self.old.poller self.new.poller }
@@ -191,6 +195,7 @@ impl<P: Poller, F: Files, C: Clock, B: Book<Finished<P::Link, F>>, G: Gate> Serv
             [] (told_of v (view_of self.new.tallied) (seen_of self.new.timed) (B.told self.new.book)))
             × IsLetGo (shut_key (λ job. tag_of job) waited) acts result }
         ensures same { (self.new.shared ≡ self.old.shared) × (self.new.limit ≡ self.old.limit) }
+        ensures clock { self.new.clock ≡ self.old.clock }
         ensures stays { HaveGrown (view_of self.old.cached) (view_of self.new.cached)
             (view_of self.old.tallied) (view_of self.new.tallied)
             × LeavesPolls P.meaning self.old.poller self.new.poller }

@@ -28,6 +28,7 @@ returns g c =
             served.level served.events;
         adds_up = c.served_runs_add_up.ensures;
         explained = served.explained;
+        beats = served.beats;
         count = served.count ∙ begun.count;
         ends = served.ends;
         limit = served.same.0;

@@ -9,3 +9,6 @@ returns-clause-book g c = refl
 
 pub returns-clause-plain : goal.returns-clause-plain
 returns-clause-plain g c = record { shared = refl; limit_is = refl; goes_on = refl }
+
+pub returns-clause-beats : goal.returns-clause-beats
+returns-clause-beats g c = refl

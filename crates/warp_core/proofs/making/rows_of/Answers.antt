@@ -1,14 +1,31 @@
-use Rattle.std.proofs.Common.{◌≡◌, ◌+◌, length, map, refl, sym, ◌∙◌, subst, arith}
-use Rattle.std.proofs.lemmas.List.{map-id}
+use Rattle.std.proofs.Common.{rules, ◌≡◌, length, map, sym, ap, ◌∙◌, subst, arith, vec_len}
+use Rattle.std.proofs.lemmas.List.{length-map, map-append, map-id}
 use Rattle.std.proofs.lemmas.List.Elements.{All-append, All-cons, All-nil}
-use Rattle.std.specs.Prelude.{All, [], ◌∷◌}
+use Rattle.std.specs.Prelude.{All, [], ◌∷◌, None}
 use Rattle.std.specs.Arc.{arc_value}
 use Rattle.std.specs.Vec.Iter.{into_iter_items}
-use Rattle.warp_core.specs.Making.{IsPlain}
-use Rattle.warp_core.specs.Rows.{passes_of}
+use Rattle.level.specs.ListLaws.{map_map}
+use Rattle.warp_core.specs.Making.{IsPlain, KeepsWhere}
+use Rattle.warp_core.specs.Rows.{beat_of, last_of, passes_of, seconds_of}
+use Rattle.warp_core.specs.SweepTimes.{IsFirstAlone}
 use Rattle.warp_core.proofs.Filling.{all_told, length_push, told_on}
-use Rattle.warp_core.proofs.Made.{new_limits, new_serve}
+use Rattle.warp_core.proofs.KeepingBeats.{alone_next}
+use Rattle.warp_core.proofs.Made.{new_beats, new_limits, new_serve}
 use Rattle.warp_core.proofs.making.rows_of.Goals as goal
+
+pub loop-kit-init : goal.loop-kit-init
+loop-kit-init g c =
+    let empty = sym c.in_ok-rows.ensures.items in record {
+      room = search rules;
+      left = search rules;
+      count = search rules;
+      many = c.requires.count;
+      passes = search rules;
+      books = search rules;
+      plain = search rules;
+      alone = subst (λ rs. IsFirstAlone c.args.seconds (map (λ r. seconds_of r.beats) rs)) empty tt;
+      fresh = subst (All (λ r. last_of r.beats ≡ None)) empty (All-nil (λ r. last_of r.beats ≡ None));
+    }
 
 pub loop-kit-preserved : goal.loop-kit-preserved
 loop-kit-preserved g c =
@@ -45,6 +62,21 @@ loop-kit-preserved g c =
           (All-append (IsPlain (arc_value c.args.shared.now) c.args.limit) rows (row ∷ []) v.plain
           (All-cons (IsPlain (arc_value c.args.shared.now) c.args.limit) row
           [] is_plain (All-nil (IsPlain (arc_value c.args.shared.now) c.args.limit))));
+      alone =
+          subst (IsFirstAlone c.args.seconds)
+          (sym (ap (map (λ r. seconds_of r.beats)) put.items
+          ∙ map-append (λ r. seconds_of r.beats) rows (row ∷ [])))
+          (alone_next c.args.seconds (map (λ r. seconds_of r.beats) rows) (seconds_of row.beats) c.is_empty.result
+          (vec_len c.loop-kit.rows) c.is_empty.ensures
+          (let ok = c.loop-kit.rows.ok.0 in
+          let mapped = length-map rows (λ r. seconds_of r.beats) in
+          omega arith)
+          (subst (KeepsWhere c.is_empty.result c.args.seconds) (sym (ap seconds_of e.beats))
+          c.in_ok-beats.ensures.alone) v.alone);
+      fresh = subst (All (λ r. last_of r.beats ≡ None)) (sym put.items)
+          (All-append (λ r. last_of r.beats ≡ None) rows (row ∷ []) v.fresh
+          (All-cons (λ r. last_of r.beats ≡ None) row []
+          (ap last_of e.beats ∙ c.in_ok-beats.ensures.last) (All-nil (λ r. last_of r.beats ≡ None))));
     }
 
 pub returns-clause-serve : goal.returns-clause-serve
@@ -80,3 +112,23 @@ returns-clause-passes g c =
     let all : length rows ≡ length c.args.passes.items = omega arith in
     all_told (λ p. p) passes_of rows (into_iter_items c.loop-kit.own) c.args.passes.items v.passes all
     ∙ map-id c.args.passes.items
+
+pub returns-clause-beats : goal.returns-clause-beats
+returns-clause-beats g c =
+    let v = c.loop-kit.invariant in
+    let none = c.in-None.ensures.steps.0 in
+    let left = v.left in
+    let count = v.count in
+    let clock = g.C.Clock.told in
+    let rows = c.loop-kit.rows.items in
+    let all : length rows ≡ length c.args.passes.items = omega arith in
+    record {
+      first =
+          subst (IsFirstAlone c.args.seconds) (map_map (λ b. b.seconds) (beat_of clock) rows) v.alone;
+      kept =
+          new_beats g.B.Book.told g.P.Poller.meaning.faults (arc_value c.args.shared.now) c.args.limit clock rows
+          c.args.passes.items
+          (all_told (λ p. p) passes_of rows (into_iter_items c.loop-kit.own) c.args.passes.items v.passes all
+          ∙ map-id c.args.passes.items)
+          c.requires.new c.new_passes_did_nothing.ensures v.fresh;
+    }

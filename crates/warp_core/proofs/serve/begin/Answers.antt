@@ -1,11 +1,13 @@
-use Rattle.std.proofs.Common.{◌≡◌, refl, get_or, arith}
-use Rattle.std.specs.Prelude.{slice_get, slice_set, Some}
+use Rattle.std.proofs.Common.{get_or}
+use Rattle.std.specs.Prelude.{slice_set}
 use Rattle.std.proofs.lemmas.Option.{slice_get-get_or}
 use Rattle.std.proofs.lemmas.List.Elements.{All-set}
-use Rattle.warp_core.specs.Rows.{Serves, known_by}
+use Rattle.warp_core.specs.Rows.{Serves, beat_of, known_by}
+use Rattle.warp_core.specs.SweepTimes.{KeepsOn}
 use Rattle.warp_passes.specs.Levels.{HasPassGrown}
 use Rattle.warp_core.proofs.RowLists.{each_one, map_one}
 use Rattle.warp_core.proofs.Serving.{pass_same}
+use Rattle.warp_core.proofs.KeepingBeats.{on_same}
 use Rattle.warp_core.proofs.serve.begin.Goals as goal
 
 pub listen-requires-clause-serves : goal.listen-requires-clause-serves
@@ -38,3 +40,9 @@ returns-clause-seats g c =
     (each_one HasPassGrown known_by pass_same xs 0 x y
     (slice_get-get_or xs 0 c.index-rows-0.result c.requires.some) c.listen.ensures.goes_on.passes)
     c.requires.seats
+
+pub returns-clause-beats : goal.returns-clause-beats
+returns-clause-beats g c =
+    let xs = c.args.rows.now in
+    each_one KeepsOn (beat_of g.C.Clock.told) on_same xs 0 (get_or xs 0 c.index-rows-0.result) c.listen.new.row
+    (slice_get-get_or xs 0 c.index-rows-0.result c.requires.some) c.listen.ensures.on

@@ -12,6 +12,8 @@ use Rattle.warp_core.specs.Rows.{known_by}
 use Rattle.warp_core.proofs.Keeping.{keeps_called, keeps_silent}
 use Rattle.warp_core.proofs.Serving.{cells_of, goes_aside, goes_then, made_grown, serves_with}
 use Rattle.warp_core.proofs.Halting.{halts_as}
+use Rattle.warp_core.proofs.KeepingBeats.{on_aside, on_then}
+use Rattle.warp_core.specs.Rows.{beat_of}
 use Rattle.warp_core.proofs.serve.listen.Goals as goal
 
 pub begin_listening-requires-clause-mgr : goal.begin_listening-requires-clause-mgr
@@ -126,3 +128,37 @@ returns-in-Err-clause-goes_on g c =
     (goes_aside x y (made_grown (mgr_view x.disp.mgr) (begun_by c.begin_listening.result)
     (mgr_view c.begin_listening.new.pass) e.made) refl e.stays.0 e.same.1)
     c.halt.ensures.goes_on
+
+pub returns-in-Ok-None-clause-on : goal.returns-in-Ok-None-clause-on
+returns-in-Ok-None-clause-on g c =
+    let x = c.args.row.now in
+    let e = c.begin_listening.ensures in
+    let y = record x {
+      disp = record x.disp { mgr = c.begin_listening.new.pass };
+      runner = c.begin_listening.new.self;
+      halted = None;
+    } in
+    on_aside g.C.Clock.told x y refl e.clock e.timed
+
+pub returns-in-Ok-Some-clause-on : goal.returns-in-Ok-Some-clause-on
+returns-in-Ok-Some-clause-on g c =
+    let x = c.args.row.now in
+    let e = c.begin_listening.ensures in
+    let y = record x {
+      disp = record x.disp { mgr = c.begin_listening.new.pass; hand = c.push.new.self };
+      runner = c.begin_listening.new.self;
+      halted = None;
+    } in
+    on_aside g.C.Clock.told x y refl e.clock e.timed
+
+pub returns-in-Err-clause-on : goal.returns-in-Err-clause-on
+returns-in-Err-clause-on g c =
+    let x = c.args.row.now in
+    let e = c.begin_listening.ensures in
+    let y = record x {
+      disp = record x.disp { mgr = c.begin_listening.new.pass };
+      runner = c.begin_listening.new.self;
+      halted = None;
+    } in
+    on_then (beat_of g.C.Clock.told x) (beat_of g.C.Clock.told y) (beat_of g.C.Clock.told c.halt.new.row)
+    (on_aside g.C.Clock.told x y refl e.clock e.timed) c.halt.ensures.on

@@ -1,5 +1,6 @@
 use Rattle.std.proofs.Common.{arith}
 use Rattle.warp_core.proofs.RowLists.{all_same_by}
+use Rattle.warp_core.proofs.KeepingBeats.{each_on_then}
 use Rattle.warp_core.proofs.serve.listen_and_serve.Goals as goal
 
 pub begin-requires-clause-some : goal.begin-requires-clause-some
@@ -42,3 +43,6 @@ returns-clause-ends g c = c.serve_on.ensures.ends
 
 pub returns-clause-cause : goal.returns-clause-cause
 returns-clause-cause g c = c.serve_on.ensures.cause
+
+pub returns-clause-beats : goal.returns-clause-beats
+returns-clause-beats g c = each_on_then _ _ _ c.begin.ensures.beats c.serve_on.ensures.beats

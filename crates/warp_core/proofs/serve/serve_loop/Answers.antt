@@ -1,4 +1,4 @@
-use Rattle.std.proofs.Common.{rules, ◌≡◌, [], ◌++◌, length, take, drop, sym, ap}
+use Rattle.std.proofs.Common.{rules, ◌≡◌, [], ◌++◌, length, map, take, drop, sym, ap}
 use Rattle.std.proofs.Common.{subst, arith}
 use Rattle.std.specs.Prelude.{All, get_or}
 use Rattle.std.specs.Arc.{arc_value}
@@ -8,10 +8,13 @@ use Rattle.warp_passes.specs.Cells.{SeatsAreOnce}
 use Rattle.warp_passes.specs.Levels.{AreNewPasses}
 use Rattle.warp_passes.specs.Passes.{lawful_of, pass_view}
 use Rattle.warp_core.specs.Making.{HasParts}
-use Rattle.warp_core.specs.Rows.{Serves, known_by, passes_of}
+use Rattle.warp_core.specs.Rows.{Serves, beat_of, known_by, passes_of}
+use Rattle.warp_core.specs.SweepTimes.{FirstKeeps}
 use Rattle.warp_core.proofs.Apart.{caused_apart, explained_apart, served_count, served_ends, served_level}
 use Rattle.warp_core.proofs.Apart.{served_events, served_own}
+use Rattle.warp_core.proofs.BeatsApart.{kept_apart}
 use Rattle.warp_core.proofs.EventSums.{all_placed}
+use Rattle.warp_core.proofs.KeepingBeats.{first_on}
 use Rattle.warp_core.proofs.Made.{known_rows, new_hands}
 use Rattle.warp_core.proofs.serve.serve_loop.Goals as goal
 
@@ -215,3 +218,20 @@ returns-clause-count g c =
     let counted = served_count told faults s c.args.limit ws c.fill-passes.result.passes.items
     c.fill-passes.result.kits.items parts in
     omega arith
+
+pub returns-clause-beats : goal.returns-clause-beats
+returns-clause-beats g c =
+    let clock = g.C.Clock.told in
+    let rows = c.in_ok-rows.rows.items in
+    let ws = c.listen_and_serve-end.new.rows in
+    let many : c.in_ok-rows.rows.len ≡ length ws = search rules in
+    let whole : take c.in_ok-rows.rows.len (ws ++ drop (length ws) rows) ≡ ws =
+    whole_slice c.in_ok-rows.rows.len ws (drop (length ws) rows) many in
+    let passes = c.fill-passes.result.passes.items in
+    let kits = c.fill-passes.result.kits.items in
+    let parts = subst (λ rs. HasParts rs passes kits) whole c.fill-passes.ensures in
+    kept_apart clock c.args.seconds ws passes kits parts
+    (first_on c.args.seconds (map (beat_of clock) c.as_mut_slice.result.now) (map (beat_of clock) ws)
+    c.listen_and_serve-end.ensures.beats
+    (subst (λ rs. FirstKeeps c.args.seconds (map (beat_of clock) rs)) (sym c.as_mut_slice.ensures.value)
+    c.in_ok-rows.ensures.beats))

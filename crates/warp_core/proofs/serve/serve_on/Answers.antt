@@ -1,5 +1,6 @@
-use Rattle.std.proofs.Common.{arith}
+use Rattle.std.proofs.Common.{refl, arith}
 use Rattle.warp_core.proofs.RowLists.{all_same_by}
+use Rattle.warp_core.proofs.KeepingBeats.{each_on_as, each_on_then}
 use Rattle.warp_core.proofs.serve.serve_on.Goals as goal
 
 pub loop-init : goal.loop-init
@@ -8,6 +9,7 @@ loop-init g c = record {
   serve = c.requires.serve;
   limits = c.requires.limit;
   seats = c.requires.seats;
+  beats = each_on_as _ _ refl;
 }
 
 pub settle-requires-clause-some : goal.settle-requires-clause-some
@@ -51,4 +53,11 @@ loop-preserved g c = record {
       all_same_by (λ row. row.runner.limit) c.args.limit c.settle.new.rows c.turn_all.new.rows
       c.turn_all.ensures.limit c.settle.ensures.limit;
   seats = c.turn_all.ensures.seats;
+  beats =
+      each_on_then _ _ _ c.loop.invariant.beats
+      (each_on_then _ _ _ c.settle.ensures.beats c.turn_all.ensures.beats);
 }
+
+pub returns-in-Some-settle-clause-beats : goal.returns-in-Some-settle-clause-beats
+returns-in-Some-settle-clause-beats g c =
+    each_on_then _ _ _ c.loop.invariant.beats c.settle.ensures.beats

@@ -1,7 +1,8 @@
 use Rattle.std.proofs.Common.{rules, ◌≡◌, ◌<◌, length, get_or, sym, ap, ◌∙◌, subst, arith}
 use Rattle.level.specs.ListLaws.{map_each}
 use Rattle.warp_passes.specs.Levels.{HasPassGrown}
-use Rattle.warp_core.specs.Rows.{Serves, known_by}
+use Rattle.warp_core.specs.Rows.{Serves, beat_of, known_by}
+use Rattle.warp_core.specs.SweepTimes.{KeepsOn}
 use Rattle.warp_core.proofs.RowLists.{each_place}
 use Rattle.warp_core.proofs.serve.turn_all.Goals as goal
 
@@ -40,3 +41,14 @@ returns-clause-limit g c =
     (let t = (c.for_each_mut.ensures i d lt).1 in
     ap (λ row. row.runner.limit) (sym t.left)
     ∙ (t.call.1.limit ∙ ap (λ row. row.runner.limit) t.argument_is)))
+
+pub returns-clause-beats : goal.returns-clause-beats
+returns-clause-beats g c =
+    let xs = c.args.rows.now in
+    let ys = c.for_each_mut.new.s in
+    let len : length ys ≡ length xs = search rules in
+    let known = beat_of g.C.Clock.told in
+    each_place KeepsOn known xs ys len (λ i d lt.
+    (let t = (c.for_each_mut.ensures i d lt).1 in
+    subst (λ row. KeepsOn (known (get_or xs i d)) (known row)) t.left
+    (subst (λ row. KeepsOn (known row) (known t.after_call.now)) t.argument_is t.call.2)))

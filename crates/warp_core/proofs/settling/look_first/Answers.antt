@@ -1,11 +1,13 @@
-use Rattle.std.proofs.Common.{◌≡◌, refl, get_or, arith}
-use Rattle.std.specs.Prelude.{slice_get, slice_set, Some}
+use Rattle.std.proofs.Common.{refl, get_or}
+use Rattle.std.specs.Prelude.{slice_set}
 use Rattle.std.proofs.lemmas.Option.{slice_get-get_or}
 use Rattle.std.proofs.lemmas.List.Elements.{All-set}
-use Rattle.warp_core.specs.Rows.{Serves, known_by}
+use Rattle.warp_core.specs.Rows.{Serves, beat_of, known_by}
+use Rattle.warp_core.specs.SweepTimes.{KeepsOn}
 use Rattle.warp_passes.specs.Levels.{HasPassGrown}
 use Rattle.warp_core.proofs.RowLists.{each_one, map_one}
 use Rattle.warp_core.proofs.Serving.{pass_same}
+use Rattle.warp_core.proofs.KeepingBeats.{on_same}
 use Rattle.warp_core.proofs.settling.look_first.Goals as goal
 
 pub look_for_over-requires : goal.look_for_over-requires
@@ -41,3 +43,10 @@ returns-clause-looked g c = record {
   left = refl;
   says = c.look_for_over.ensures.says;
 }
+
+pub returns-clause-beats : goal.returns-clause-beats
+returns-clause-beats g c =
+    let xs = c.args.rows.now in
+    each_one KeepsOn (beat_of g.C.Clock.told) on_same xs 0 (get_or xs 0 c.index-rows-0.result)
+    c.look_for_over.new.row (slice_get-get_or xs 0 c.index-rows-0.result c.requires.some)
+    c.look_for_over.ensures.on

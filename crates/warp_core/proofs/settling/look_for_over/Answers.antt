@@ -3,6 +3,7 @@ use Rattle.event_mgr.specs.Manager.{mgr_view}
 use Rattle.dispatcher.specs.Laws.{all_grown_same}
 use Rattle.warp_core.specs.Rows.{stop_in}
 use Rattle.warp_core.proofs.Serving.{cells_of, goes_aside, serves_on}
+use Rattle.warp_core.proofs.KeepingBeats.{on_aside}
 use Rattle.warp_core.proofs.settling.look_for_over.Goals as goal
 
 pub look-requires : goal.look-requires
@@ -73,3 +74,24 @@ returns-then-is_over-clause-says g c =
       turned = refl;
       all = is.1;
     }
+
+pub returns-in-Spent-clause-on : goal.returns-in-Spent-clause-on
+returns-in-Spent-clause-on g c =
+    let x = c.args.row.now in
+    let e = c.look.ensures in
+    let y = record x { runner = c.look.new.self } in
+    on_aside g.C.Clock.told x y refl e.clock e.timed
+
+pub returns-then-is_over-clause-on : goal.returns-then-is_over-clause-on
+returns-then-is_over-clause-on g c =
+    let x = c.args.row.now in
+    let e = c.look.ensures in
+    let y = record x { runner = c.look.new.self } in
+    on_aside g.C.Clock.told x y refl e.clock e.timed
+
+pub returns-else-is_over-clause-on : goal.returns-else-is_over-clause-on
+returns-else-is_over-clause-on g c =
+    let x = c.args.row.now in
+    let e = c.look.ensures in
+    let y = record x { runner = c.look.new.self } in
+    on_aside g.C.Clock.told x y refl e.clock e.timed

@@ -59,3 +59,9 @@ pub returns-in-None-clause-cause : goal.returns-in-None-clause-cause
 returns-in-None-clause-cause g c =
     caused_shown known_by c.args.limit c.show_over-over.result c.show_over-over.new.rows
     (OneDid g.B.Book.told c.args.limit c.show_over-over.new.rows) c.show_over-over.ensures.ends
+
+pub returns-in-Some-clause-beats : goal.returns-in-Some-clause-beats
+returns-in-Some-clause-beats g c = c.show_over-over.ensures.beats
+
+pub returns-in-None-clause-beats : goal.returns-in-None-clause-beats
+returns-in-None-clause-beats g c = c.show_over-over.ensures.beats

@@ -3,6 +3,7 @@ use Rattle.warp_core.specs.Rows.{known_by}
 use Rattle.warp_core.proofs.Levelled.{rows_lawful, rows_own}
 use Rattle.warp_core.proofs.Looked.{shown_over}
 use Rattle.warp_core.proofs.RowLists.{all_same_by}
+use Rattle.warp_core.proofs.KeepingBeats.{each_on_then}
 use Rattle.warp_core.proofs.settling.show_over.Goals as goal
 
 pub bring_level-requires-clause-serve : goal.bring_level-requires-clause-serve
@@ -51,3 +52,8 @@ returns-clause-ends g c =
     c.look_first-over.ensures.looked c.bring_level-2.ensures.came c.bring_level-2.ensures.keeps
     (rows_lawful s zs (rows_own g.B.Book.told g.P.Poller.meaning.faults s zs c.bring_level-2.ensures.serve))
     c.bring_level-2.ensures.level
+
+pub returns-clause-beats : goal.returns-clause-beats
+returns-clause-beats g c =
+    each_on_then _ _ _ c.bring_level.ensures.beats
+    (each_on_then _ _ _ c.look_first-over.ensures.beats c.bring_level-2.ensures.beats)

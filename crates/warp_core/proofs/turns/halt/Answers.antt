@@ -8,6 +8,7 @@ use Rattle.warp_core.specs.declared.row.Halted.{Halted}
 use Rattle.warp_core.specs.declared.row.Halted.TheVariants as Halts
 use Rattle.warp_core.proofs.Serving.{cells_of, goes_aside, serves_with, stop_noted}
 use Rattle.warp_core.specs.Rows.{stop_in, told_by}
+use Rattle.warp_core.proofs.KeepingBeats.{on_aside}
 use Rattle.warp_core.proofs.turns.halt.Goals as goal
 
 pub note_stop-requires : goal.note_stop-requires
@@ -104,3 +105,34 @@ returns-in-Spent-clause-goes_on g c =
     let e = c.note_stop-in-Spent.ensures in
     let y = record x { runner = c.note_stop-in-Spent.new.self; halted = Some Halts.Spent } in
     goes_aside x y (all_grown_same (mgr_view x.disp.mgr)) refl e.stays.0 e.same.1
+
+pub returns-in-PollFault-clause-on : goal.returns-in-PollFault-clause-on
+returns-in-PollFault-clause-on g c =
+    let x = c.args.row.now in
+    let e = c.note_stop.ensures in
+    let y = record x { runner = c.note_stop.new.self; halted = Some Halts.PollFault } in
+    on_aside g.C.Clock.told x y refl e.clock e.timed
+
+pub returns-in-Done-clause-on : goal.returns-in-Done-clause-on
+returns-in-Done-clause-on g c =
+    let x = c.args.row.now in
+    let e = c.note_stop-in-WithCode.ensures in
+    let y = record x {
+      runner = c.note_stop-in-WithCode.new.self;
+      halted = Some (Halts.WithCode c.in-WithCode.code);
+    } in
+    on_aside g.C.Clock.told x y refl e.clock e.timed
+
+pub returns-in-Spent-note_stop-clause-on : goal.returns-in-Spent-note_stop-clause-on
+returns-in-Spent-note_stop-clause-on g c =
+    let x = c.args.row.now in
+    let e = c.note_stop-in-WithCode.ensures in
+    let y = record x { runner = c.note_stop-in-WithCode.new.self; halted = Some Halts.Spent } in
+    on_aside g.C.Clock.told x y refl e.clock e.timed
+
+pub returns-in-Spent-clause-on : goal.returns-in-Spent-clause-on
+returns-in-Spent-clause-on g c =
+    let x = c.args.row.now in
+    let e = c.note_stop-in-Spent.ensures in
+    let y = record x { runner = c.note_stop-in-Spent.new.self; halted = Some Halts.Spent } in
+    on_aside g.C.Clock.told x y refl e.clock e.timed

@@ -3,6 +3,7 @@ use Rattle.event_mgr.specs.Manager.{mgr_view}
 use Rattle.dispatcher.specs.Laws.{all_grown_same}
 use Rattle.warp_core.specs.Rows.{stop_in}
 use Rattle.warp_core.proofs.Serving.{cells_of, goes_aside, serves_on}
+use Rattle.warp_core.proofs.KeepingBeats.{on_aside}
 use Rattle.warp_core.proofs.turns.look.Goals as goal
 
 pub look-requires : goal.look-requires
@@ -61,3 +62,24 @@ returns-else-all-clause-goes_on g c =
     let e = c.look.ensures in
     let y = record x { runner = c.look.new.self } in
     goes_aside x y (all_grown_same (mgr_view x.disp.mgr)) refl e.stays.0 e.same.1
+
+pub returns-in-Spent-clause-on : goal.returns-in-Spent-clause-on
+returns-in-Spent-clause-on g c =
+    let x = c.args.row.now in
+    let e = c.look.ensures in
+    let y = record x { runner = c.look.new.self } in
+    on_aside g.C.Clock.told x y refl e.clock e.timed
+
+pub returns-then-all-clause-on : goal.returns-then-all-clause-on
+returns-then-all-clause-on g c =
+    let x = c.args.row.now in
+    let e = c.look.ensures in
+    let y = record x { runner = c.look.new.self } in
+    on_aside g.C.Clock.told x y refl e.clock e.timed
+
+pub returns-else-all-clause-on : goal.returns-else-all-clause-on
+returns-else-all-clause-on g c =
+    let x = c.args.row.now in
+    let e = c.look.ensures in
+    let y = record x { runner = c.look.new.self } in
+    on_aside g.C.Clock.told x y refl e.clock e.timed

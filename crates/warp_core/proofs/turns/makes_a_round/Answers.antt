@@ -1,4 +1,5 @@
 use Rattle.warp_core.proofs.Serving.{goes_then}
+use Rattle.warp_core.proofs.KeepingBeats.{on_then}
 use Rattle.warp_core.proofs.turns.makes_a_round.Goals as goal
 
 pub beat-requires : goal.beat-requires
@@ -79,3 +80,17 @@ returns-in-Spent-clause-beats g c = (
   goes_then c.beat.new.row c.look.new.row c.halt-in-Spent.new.row c.look.ensures.goes_on
       c.halt-in-Spent.ensures.goes_on,
 )
+
+pub returns-in-Some-clause-on : goal.returns-in-Some-clause-on
+returns-in-Some-clause-on g c = on_then _ _ _ c.beat.ensures.on c.halt.ensures.on
+
+pub returns-in-GoesOn-clause-on : goal.returns-in-GoesOn-clause-on
+returns-in-GoesOn-clause-on g c =
+    on_then _ _ _ c.beat.ensures.on (on_then _ _ _ c.look.ensures.on c.goes_on.ensures.on)
+
+pub returns-in-IsOver-clause-on : goal.returns-in-IsOver-clause-on
+returns-in-IsOver-clause-on g c = on_then _ _ _ c.beat.ensures.on c.look.ensures.on
+
+pub returns-in-Spent-clause-on : goal.returns-in-Spent-clause-on
+returns-in-Spent-clause-on g c =
+    on_then _ _ _ c.beat.ensures.on (on_then _ _ _ c.look.ensures.on c.halt-in-Spent.ensures.on)

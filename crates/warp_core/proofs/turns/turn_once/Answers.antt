@@ -8,6 +8,7 @@ use Rattle.warp_runner.specs.Journal.{FitsUntil}
 use Rattle.warp_core.specs.Rows.{known_by}
 use Rattle.warp_core.proofs.Keeping.{keeps_balanced}
 use Rattle.warp_core.proofs.Serving.{cells_of, goes_by, serves_with}
+use Rattle.warp_core.proofs.KeepingBeats.{on_turns}
 use Rattle.warp_core.proofs.turns.turn_once.Goals as goal
 
 pub turn-turned-requires-clause-ready : goal.turn-turned-requires-clause-ready
@@ -157,3 +158,51 @@ returns-in-Stop-clause-may_halt g c =
 pub returns-in-Spent-clause-may_halt : goal.returns-in-Spent-clause-may_halt
 returns-in-Spent-clause-may_halt g c =
     record { stops = (c.turn-turned.ensures.fits.1.0, tt); faulted = λ is. absurd (cc) }
+
+pub returns-in-Done-clause-on : goal.returns-in-Done-clause-on
+returns-in-Done-clause-on g c =
+    let x = c.args.row.now in
+    let work = c.in-Done.ensures.turned.work in
+    let y = record x {
+      disp = c.turn-turned.new.passes;
+      runner = c.turn-turned.new.runner;
+      reports = c.turn-turned.new.reports;
+      halted = None;
+    } in
+    on_turns g.C.Clock.told x y refl work.kept.3 work.kept.4
+
+pub returns-in-PollFault-clause-on : goal.returns-in-PollFault-clause-on
+returns-in-PollFault-clause-on g c =
+    let x = c.args.row.now in
+    let work = c.in-PollFault.ensures.turned.work in
+    let y = record x {
+      disp = c.turn-turned.new.passes;
+      runner = c.turn-turned.new.runner;
+      reports = c.turn-turned.new.reports;
+      halted = None;
+    } in
+    on_turns g.C.Clock.told x y refl work.kept.3 work.kept.4
+
+pub returns-in-Stop-clause-on : goal.returns-in-Stop-clause-on
+returns-in-Stop-clause-on g c =
+    let x = c.args.row.now in
+    let work = c.in-Stop.ensures.turned.work in
+    let y = record x {
+      disp = c.turn-turned.new.passes;
+      runner = c.turn-turned.new.runner;
+      reports = c.turn-turned.new.reports;
+      halted = None;
+    } in
+    on_turns g.C.Clock.told x y refl work.kept.3 work.kept.4
+
+pub returns-in-Spent-clause-on : goal.returns-in-Spent-clause-on
+returns-in-Spent-clause-on g c =
+    let x = c.args.row.now in
+    let work = c.in-Spent.ensures.turned.0.work in
+    let y = record x {
+      disp = c.turn-turned.new.passes;
+      runner = c.turn-turned.new.runner;
+      reports = c.turn-turned.new.reports;
+      halted = None;
+    } in
+    on_turns g.C.Clock.told x y refl work.kept.3 work.kept.4

@@ -1,4 +1,4 @@
-use Rattle.std.proofs.Common.{◌≡◌, ◌+◌, length, refl, arith}
+use Rattle.std.proofs.Common.{◌≡◌, length, refl, arith}
 use Rattle.std.specs.Vec.Iter.{into_iter_items}
 use Rattle.warp_core.specs.Rows.{passes_of}
 use Rattle.warp_core.proofs.Filling.{all_moved, all_told, length_push, moved_on, told_on}
@@ -35,6 +35,9 @@ loop-row-preserved-in-Some g c =
       pollers =
           told_on (λ r. r.runner.poller) (λ k. k.poller) c.loop-row.kits.items
           c.push_reserved-in-loop-row.new.self.items _ row its left _ next.0 also.items refl v.pollers;
+      clocks =
+          told_on (λ r. r.runner.clock) (λ k. k.clock) c.loop-row.kits.items
+          c.push_reserved-in-loop-row.new.self.items _ row its left _ next.0 also.items refl v.clocks;
     }
 
 pub loop-row-preserved : goal.loop-row-preserved
@@ -68,6 +71,9 @@ loop-row-preserved g c =
       pollers =
           told_on (λ r. r.runner.poller) (λ k. k.poller) c.loop-row.kits.items
           c.push_reserved-in-loop-row.new.self.items _ row its left _ next.0 also.items refl v.pollers;
+      clocks =
+          told_on (λ r. r.runner.clock) (λ k. k.clock) c.loop-row.kits.items
+          c.push_reserved-in-loop-row.new.self.items _ row its left _ next.0 also.items refl v.clocks;
     }
 
 pub returns : goal.returns
@@ -86,4 +92,7 @@ returns g c =
       pollers =
           all_told (λ r. r.runner.poller)
           (λ k. k.poller) c.loop-row.kits.items its c.args.rows.items v.pollers also;
+      clocks =
+          all_told (λ r. r.runner.clock)
+          (λ k. k.clock) c.loop-row.kits.items its c.args.rows.items v.clocks also;
     }

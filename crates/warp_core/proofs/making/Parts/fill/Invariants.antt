@@ -14,4 +14,6 @@ invariant-loop-row g l = record {
       ≡ map (λ row. row.runner.book) l.fn.rows.items;
   pollers : map (λ kit. kit.poller) l.kits.items ++ map (λ row. row.runner.poller)
       (into_iter_items l.row-iterator) ≡ map (λ row. row.runner.poller) l.fn.rows.items;
+  clocks : map (λ kit. kit.clock) l.kits.items ++ map (λ row. row.runner.clock)
+      (into_iter_items l.row-iterator) ≡ map (λ row. row.runner.clock) l.fn.rows.items;
 }

@@ -1,7 +1,8 @@
-use Rattle.std.proofs.Common.{ap, ◌∙◌}
+use Rattle.std.proofs.Common.{ap, ◌∙◌, subst, sym}
 use Rattle.warp_jobs.specs.Held.{Held}
 use Rattle.warp_jobs.specs.declared.session.Went.TheVariants.{Waits, Asks, Over}
 use Rattle.dispatcher.specs.Laws.{grown_then}
+use Rattle.warp_runner.specs.Asking.{HasAsked, asked_then}
 use Rattle.warp_runner.specs.declared.bringing.Brought.TheVariants as Ways
 use Rattle.warp_runner.proofs.BringingLemmas.{left_off, on_then, number_then, on_supplied, number_supplied}
 use Rattle.warp_runner.proofs.runner.ServerRunner.bring_on.Goals as goal
@@ -42,9 +43,14 @@ files-preserved g c =
     let m = c.spent_lease.new.self in
     let i = c.files.invariant in
     let e = c.keep.ensures in
-    let f = c.find.ensures in record {
+    let f = c.find.ensures in
+    let gone = c.in-Asks.ensures.gone.clocked in record {
       own = f.own;
       same = (f.same.0 ∙ e.same.0 ∙ i.same.0, f.same.1 ∙ e.same.1 ∙ i.same.1);
+      asked =
+          subst (λ clock. HasAsked (g.C.Clock.told c.args.self.now.clock) (g.C.Clock.told clock))
+          (sym (f.clock ∙ e.clock))
+          (asked_then _ _ _ i.asked (gone.gained, gone.gave));
       grown = grown_then _ _ _ i.grown (grown_then _ _ _ e.grown f.grown);
       rest = (
         f.rest.0 ∙ e.rest.0 ∙ i.rest.0,
@@ -62,3 +68,30 @@ files-preserved g c =
           (number_then h k l m Asks _ _ i.number c.in-Asks.ensures.gone c.spent_lease.ensures.same)
           c.supply.ensures.supplied;
     }
+
+pub returns-in-Err-clause-asked : goal.returns-in-Err-clause-asked
+returns-in-Err-clause-asked g c =
+    let gone = c.advance-went.ensures.gone.clocked in
+    subst (λ clock. HasAsked (g.C.Clock.told c.args.self.now.clock) (g.C.Clock.told clock))
+    (sym c.keep.ensures.clock) (asked_then _ _ _ c.files.invariant.asked (gone.gained, gone.gave))
+
+pub returns-in-Waits-clause-asked : goal.returns-in-Waits-clause-asked
+returns-in-Waits-clause-asked g c =
+    let gone = c.in-Waits.ensures.gone.clocked in
+    subst (λ clock. HasAsked (g.C.Clock.told c.args.self.now.clock) (g.C.Clock.told clock))
+    (sym (c.leave_off.ensures.clock ∙ c.keep.ensures.clock))
+    (asked_then _ _ _ c.files.invariant.asked (gone.gained, gone.gave))
+
+pub returns-in-Over-clause-asked : goal.returns-in-Over-clause-asked
+returns-in-Over-clause-asked g c =
+    let gone = c.in-Over.ensures.gone.clocked in
+    subst (λ clock. HasAsked (g.C.Clock.told c.args.self.now.clock) (g.C.Clock.told clock))
+    (sym (c.leave_off-in-Over.ensures.clock ∙ c.keep.ensures.clock))
+    (asked_then _ _ _ c.files.invariant.asked (gone.gained, gone.gave))
+
+pub returns-in-Err-find-clause-asked : goal.returns-in-Err-find-clause-asked
+returns-in-Err-find-clause-asked g c =
+    let gone = c.in-Asks.ensures.gone.clocked in
+    subst (λ clock. HasAsked (g.C.Clock.told c.args.self.now.clock) (g.C.Clock.told clock))
+    (sym (c.find.ensures.clock ∙ c.keep.ensures.clock))
+    (asked_then _ _ _ c.files.invariant.asked (gone.gained, gone.gave))

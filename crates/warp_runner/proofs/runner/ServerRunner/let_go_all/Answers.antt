@@ -17,6 +17,7 @@ loop-waited-init g c =
     let was = c.args.self.now in record {
       own = c.requires.own;
       same = (refl, refl);
+      clock = refl;
       stays = (
         grown_none (view_of was.cached) (view_of was.tallied),
         record { same_polled = refl; same_faults = refl },
@@ -59,6 +60,7 @@ loop-waited-preserved g c =
     let e = c.let_go.ensures in record {
       own = e.own;
       same = (e.same.0 ∙ c.loop-waited.invariant.same.0, e.same.1 ∙ c.loop-waited.invariant.same.1);
+      clock = e.clock ∙ c.loop-waited.invariant.clock;
       stays = (
         grown_then (view_of was.cached) (view_of now.cached) (view_of next.cached) (view_of was.tallied)
             (view_of now.tallied) (view_of next.tallied) c.loop-waited.invariant.stays.0 e.stays.0,

@@ -16,6 +16,7 @@ invariant-loop-waited g l = record {
   own : AreOfCells (arc_value l.self.shared).times l.self.timed (arc_value l.self.shared).cache l.self.cached
       (arc_value l.self.shared).tally l.self.tallied;
   same : (l.self.shared ≡ l.fn.self.shared) × (l.self.limit ≡ l.fn.self.limit);
+  clock : l.self.clock ≡ l.fn.self.clock;
   stays : HaveGrown (view_of l.fn.self.cached) (view_of l.self.cached) (view_of l.fn.self.tallied)
       (view_of l.self.tallied) × LeavesPolls g.P.Poller.meaning l.fn.self.poller l.self.poller;
   gone : GoneThrough IsLetGo (map (shut_key (λ job. tag_of job)) l.fn.list)

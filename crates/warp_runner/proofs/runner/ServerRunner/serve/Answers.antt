@@ -1,4 +1,4 @@
-use Rattle.std.proofs.Common.{◌+◌, [], ◌∷◌, true, false, ap, ◌∙◌, subst}
+use Rattle.std.proofs.Common.{◌+◌, [], ◌∷◌, true, false, ap, ◌∙◌, subst, sym}
 use Rattle.std.specs.Prelude.{Some}
 use Rattle.turn_cell.specs.Calls.{view_of}
 use Rattle.event_mgr.specs.Manager.{mgr_view}
@@ -7,6 +7,7 @@ use Rattle.timeout_mgr.specs.declared.view.TimeCall.TheVariants.{Tickle}
 use Rattle.warp_books.specs.declared.finish.Finish.TheVariants.{Ended, TimedOut}
 use Rattle.warp_jobs.specs.Held.{Held}
 use Rattle.warp_runner.specs.Acts.{Did, ServeTold, told_of, watched}
+use Rattle.warp_runner.specs.Asking.{HasAsked, asked_none}
 use Rattle.warp_runner.specs.Deeds.{IsBroughtOn, IsConnectionRun, IsRegistering}
 use Rattle.warp_runner.proofs.EndingLemmas.{told_same}
 use Rattle.warp_runner.proofs.Registering.{EndedSo, RanSo, ran_as, runs_gone, runs_over, runs_on, runs_spent}
@@ -107,3 +108,8 @@ returns-in-Spent-clause-did g c =
     (c.if-not-is_alive.ensures.did m)) in
     ran_as u x c.after-in-Spent.result _ (IsConnectionRun h c.args.marks) c.after-in-Spent.ensures
     (runs_spent h c.args.marks u x tickled)
+
+pub returns-then-not-is_alive-clause-asked : goal.returns-then-not-is_alive-clause-asked
+returns-then-not-is_alive-clause-asked g c =
+    subst (λ clock. HasAsked (g.C.Clock.told c.args.self.now.clock) (g.C.Clock.told clock))
+    (sym (c.end.ensures.clock ∙ c.is_alive.ensures.clock)) (asked_none _)

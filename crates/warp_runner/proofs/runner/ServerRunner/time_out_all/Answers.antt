@@ -16,6 +16,7 @@ loop-opening-init g c =
       mgr = c.requires.mgr;
       own = c.requires.own;
       same = (refl, refl);
+      clock = refl;
       stays = (
         grown_none (view_of was.cached) (view_of was.tallied),
         record { same_polled = refl; same_faults = refl },
@@ -59,6 +60,7 @@ loop-opening-preserved g c =
       mgr = e.mgr;
       own = e.own;
       same = (e.same.0 ∙ c.loop-opening.invariant.same.0, e.same.1 ∙ c.loop-opening.invariant.same.1);
+      clock = e.clock ∙ c.loop-opening.invariant.clock;
       stays = (
         grown_then (view_of was.cached) (view_of now.cached) (view_of next.cached) (view_of was.tallied)
             (view_of now.tallied) (view_of next.tallied) c.loop-opening.invariant.stays.0 e.stays.0,

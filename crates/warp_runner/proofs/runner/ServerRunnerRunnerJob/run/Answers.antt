@@ -10,6 +10,7 @@ use Rattle.warp_jobs.specs.Tags.{tag_of}
 use Rattle.warp_runner.specs.Acts.{told_of}
 use Rattle.warp_runner.specs.Journal.{FitsUntil}
 use Rattle.warp_runner.specs.Runs.{named}
+use Rattle.warp_runner.proofs.NeverSweeps.{run_sweeps_none}
 use Rattle.warp_runner.proofs.Running.{run_fits}
 use Rattle.warp_runner.proofs.runner.ServerRunnerRunnerJob.run.Goals as goal
 
@@ -43,3 +44,23 @@ returns-clause-made g c =
     let ran = c.run_job-ran.ensures.ran f kind refl in
     subst (λ l. HasMadeCalls (mgr_view c.args.pass.now) l (mgr_view c.run_job-ran.new.pass))
     (sym c.outcome.ensures.events) ran.1.made
+
+pub returns-clause-keeps : goal.returns-clause-keeps
+returns-clause-keeps g c =
+    let first : Opening = record { number = 0; fd = 0 } in
+    let was = c.args.self.now in
+    let left = c.run_job-ran.new.self in
+    let e = c.run_job-ran.ensures in
+    let u =
+    told_of (mgr_view c.args.pass.now) (view_of was.tallied) (seen_of was.timed) (g.B.Book.told was.book) in
+    let w = told_of (mgr_view c.run_job-ran.new.pass) (view_of left.tallied) (seen_of left.timed)
+    (g.B.Book.told left.book) in
+    let f = firing_of (λ job. tag_of job) first c.args.fired.now in
+    let kind = ap (λ j. kind_of_job (λ job. tag_of job) j) (sym c.in-Some.ensures.value) in
+    let ran = c.run_job-ran.result in (
+      e.same.0,
+      e.same.1,
+      e.stays.0,
+      e.asked,
+      run_sweeps_none was.limit f u w (named ran) ran.stopped (e.ran f kind refl),
+    )
