@@ -1,5 +1,5 @@
-//! Tests that cross the crates of events: a manager and its queue, the turns of dispatchers, a net in memory,
-//! and threads that wait, put together as a server puts them.
+//! Tests that cross the crates of events: a manager and its queue, the turns of dispatchers, and a net in memory, put
+//! together as a server puts them. The tests of one descriptor and of threads that wait are `wait_tests`, over this.
 //!
 //! The library is a small server of connections over the memory net, which the tests turn: a runner of lent
 //! fields that reads what is there, registers again with the mark that its run was given, and closes at the
@@ -21,5 +21,7 @@ pub use job::{Job, LAST, drain};
 pub use runner::ServerRunner;
 pub use turns::{Kit, Row, new_row, serve_on, turn_row};
 
+// What tests are set up with, here and above.
+pub mod set_up;
 #[cfg(test)]
 mod tests;

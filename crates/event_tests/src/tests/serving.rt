@@ -6,7 +6,7 @@ ghost use Rattle.event_mgr.specs.Manager.{IsOfMgr};
 ghost use Rattle.poller.specs.Scripts.{AreScripts};
 ghost use Rattle.event_tests.specs.Rows.{ServesRow};
 
-use crate::tests::set_up::{Net, Shop, only, open, shop_of, step};
+use crate::set_up::{Net, Shop, only, open, shop_of, step};
 use crate::{Book, Finish, Job, LAST, Row, serve_on};
 use event_mgr::{EventManager, MgrPass};
 use poller::{AddOut, MemLink, MemNet, MemPoller, Poller, Reports, Script};

@@ -21,7 +21,7 @@ use std::sync::Wait;
 use std::test::Fail;
 
 /// A step that brings these bytes, and allows this many to be written.
-pub(crate) fn step(alloc: Global, piece: &[u8], allowance: u32) -> Result<ScriptStep, AllocError> {
+pub fn step(alloc: Global, piece: &[u8], allowance: u32) -> Result<ScriptStep, AllocError> {
     Ok(ScriptStep {
         piece: Vec::from_slice(alloc, piece)?,
         allowance,
@@ -30,7 +30,7 @@ pub(crate) fn step(alloc: Global, piece: &[u8], allowance: u32) -> Result<Script
 
 /// The script of the worked link alone: `ab` and two bytes that may be written, then `c` and nine more. The
 /// link has room for 100.
-pub(crate) fn worked_script(alloc: Global) -> Result<Vec<Script>, AllocError>
+pub fn worked_script(alloc: Global) -> Result<Vec<Script>, AllocError>
     ensures { IfOk result (λ v. AreScripts v.items) }
 {
     let steps = vec![in alloc; step(alloc, b"ab", 2)?, step(alloc, b"c", 9)?]?;
@@ -38,7 +38,7 @@ pub(crate) fn worked_script(alloc: Global) -> Result<Vec<Script>, AllocError>
 }
 
 /// Opens the lowest free descriptor.
-pub(crate) fn open<R: Wait>(
+pub fn open<R: Wait>(
     rt: &R,
     mgr: &EventManager<Job>,
     pass: &mut MgrPass<Job>,
@@ -54,7 +54,7 @@ pub(crate) fn open<R: Wait>(
 }
 
 /// Accepts the next link. Where the listener wants to be waited for, its poller is polled once.
-pub(crate) fn accept<R: Wait>(
+pub fn accept<R: Wait>(
     rt: &R,
     listener: &mut MemListener,
     poller: &mut MemPoller,
@@ -76,15 +76,15 @@ pub(crate) fn accept<R: Wait>(
 
 /// A manager and a queue, with the passes that others are split off.
 #[derive(Drop)]
-pub(crate) struct Shop {
-    pub(crate) mgr: EventManager<Job>,
-    pub(crate) queue: ReadyQueue,
-    pub(crate) pass: MgrPass<Job>,
-    pub(crate) place: QPass,
+pub struct Shop {
+    pub mgr: EventManager<Job>,
+    pub queue: ReadyQueue,
+    pub pass: MgrPass<Job>,
+    pub place: QPass,
 }
 
 /// A shop with a queue of this capacity.
-pub(crate) fn shop_of(alloc: Global, capacity: u32) -> Result<Shop, Fail>
+pub fn shop_of(alloc: Global, capacity: u32) -> Result<Shop, Fail>
     requires { 0 < capacity }
     ensures pass { IfOk result (λ s. IsOfMgr s.mgr s.pass) }
     ensures place { IfOk result (λ s. IsOf s.queue s.place) }
@@ -101,7 +101,7 @@ pub(crate) fn shop_of(alloc: Global, capacity: u32) -> Result<Shop, Fail>
 
 impl Shop {
     /// The passes of one more thread.
-    pub(crate) fn further(&mut self, alloc: Global) -> Result<DispPass<Job>, Fail>
+    pub fn further(&mut self, alloc: Global) -> Result<DispPass<Job>, Fail>
         requires pass { IsOfMgr self.old.mgr self.old.pass }
         requires place { IsOf self.old.queue self.old.place }
         ensures shop { (self.new.mgr ≡ self.old.mgr) × (self.new.queue ≡ self.old.queue) }
@@ -115,7 +115,7 @@ impl Shop {
     }
 
     /// A row with this poller and this book, which is empty.
-    pub(crate) fn row(&mut self, alloc: Global, poller: MemPoller, book: Book) -> Result<Row, Fail>
+    pub fn row(&mut self, alloc: Global, poller: MemPoller, book: Book) -> Result<Row, Fail>
         requires pass { IsOfMgr self.old.mgr self.old.pass }
         requires place { IsOf self.old.queue self.old.place }
         requires book { book.finished.items ≡ [] }
@@ -138,7 +138,7 @@ impl Shop {
 }
 
 /// The only poller of a net.
-pub(crate) fn only(pollers: &mut Vec<MemPoller>) -> Result<MemPoller, Fail> {
+pub fn only(pollers: &mut Vec<MemPoller>) -> Result<MemPoller, Fail> {
     let Some(poller) = pollers.pop() else {
         return Err(Fail::from("no poller"));
     };
@@ -147,14 +147,14 @@ pub(crate) fn only(pollers: &mut Vec<MemPoller>) -> Result<MemPoller, Fail> {
 
 /// A listener, a poller, and room for reports.
 #[derive(Drop)]
-pub(crate) struct Net {
-    pub(crate) listener: MemListener,
-    pub(crate) poller: MemPoller,
-    pub(crate) reports: Reports,
+pub struct Net {
+    pub listener: MemListener,
+    pub poller: MemPoller,
+    pub reports: Reports,
 }
 
 /// A net of these scripts, with one poller.
-pub(crate) fn net_of(alloc: Global, scripts: Vec<Script>) -> Result<Net, Fail>
+pub fn net_of(alloc: Global, scripts: Vec<Script>) -> Result<Net, Fail>
     requires { AreScripts scripts.items }
 {
     let (listener, mut pollers) = MemNet::new(alloc, scripts, 1)?;
@@ -169,7 +169,7 @@ pub(crate) fn net_of(alloc: Global, scripts: Vec<Script>) -> Result<Net, Fail>
 
 impl Net {
     /// Accepts the next link.
-    pub(crate) fn accepts<R: Wait>(&mut self, rt: &R) -> Result<MemLink, Fail> {
+    pub fn accepts<R: Wait>(&mut self, rt: &R) -> Result<MemLink, Fail> {
         accept(rt, &mut self.listener, &mut self.poller, &mut self.reports)
     }
 }

@@ -6,10 +6,10 @@ ghost use Rattle.dispatcher.specs.Turns.{AreOf};
 ghost use Rattle.poller.specs.Polls.{HasToken};
 ghost use Rattle.event_tests.specs.Rows.{ServesRow};
 
-use crate::tests::set_up::{Shop, net_of, open, shop_of, worked_script};
-use crate::{Book, Job, Row, turn_row};
 use dispatcher::DispPass;
 use event_mgr::{CloseOut, EventManager, MgrPass};
+use event_tests::set_up::{Shop, net_of, open, shop_of, worked_script};
+use event_tests::{Book, Job, Row, turn_row};
 use fd_wait::{WaitOut, wait};
 use outside::{Link, ReadOut};
 use poller::{AddOut, MemLink, MemPoller, Poller};

@@ -2,9 +2,9 @@
 //! what was polled.
 ghost use Rattle.std.specs.Prelude.{◌≡◌, ◌<◌, [], IfOk, length};
 
-use crate::Job;
-use crate::tests::set_up::{Net, net_of, open, worked_script};
 use event_mgr::EventManager;
+use event_tests::Job;
+use event_tests::set_up::{Net, net_of, open, worked_script};
 use outside::{Link, ReadOut, WriteOut};
 use poller::{AddOut, MemLink, MemPoller, PollOut, Poller, Reports};
 use reg_keys::{Dirs, Opening};
