@@ -1,5 +1,5 @@
-//! `serve` on the loopback: answered connections, one that says nothing, and a port that is taken. Each loop has
-//! its limit, and no read of a client waits longer than a test has time.
+//! `serve` on the loopback: answered connections, one that says nothing, and a port that is taken. Each loop
+//! has its limit, and no read of a client waits longer than a test has time.
 mod clients;
 mod server;
 mod site;

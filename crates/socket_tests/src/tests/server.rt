@@ -1,5 +1,5 @@
-//! The server: the call that the program is, over sockets, the system's files and its time, with lines that go
-//! to memory.
+//! The server: the call that the program is, over sockets, the system's files and its time, with lines that
+//! go to memory.
 ghost use Rattle.std.specs.Prelude.{◌≡◌, IfOk, None};
 ghost use Rattle.outside.specs.Causes.{IsFresh};
 ghost use Rattle.outside.specs.PieceLink.{told_of};
