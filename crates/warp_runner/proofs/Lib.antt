@@ -9,5 +9,3 @@ mod Turning
 mod AcceptLemmas
 mod Running
 mod TimingOut
-mod SweptOnce
-mod NeverSweeps

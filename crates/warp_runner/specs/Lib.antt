@@ -9,3 +9,4 @@ pub mod Leases
 pub mod Runs
 pub mod Sweeps
 pub mod StoppingLaws
+pub mod SweepLaws

@@ -14,3 +14,4 @@ pub mod Totals
 pub mod Served
 pub mod EndCauses
 pub mod EndsTold
+pub mod SweptClosed

@@ -8,6 +8,7 @@ use Rattle.reg_keys.specs.Accounts.{opens}
 use Rattle.reg_keys.specs.Tests.{same, total}
 use Rattle.turn_cell.specs.Weights.{weigh}
 use Rattle.event_mgr.specs.Manager.{own_weight}
+use Rattle.timeout_mgr.specs.Passes.{calls_of}
 use Rattle.outside.specs.ListenCauses.{ListenerTold}
 use Rattle.conn_loop.specs.declared.step.End.TheVariants.{Clean, Cut, ReadFault, WriteFault, FileFault}
 use Rattle.conn_loop.specs.declared.step.End.TheVariants.{NoMemory}
@@ -23,6 +24,7 @@ use Rattle.warp_passes.specs.Passes.{PassView, pass_view}
 use Rattle.warp_runner.specs.Acts.{all_out_in, told_of}
 use Rattle.warp_runner.specs.Deeds.{IsStarting}
 use Rattle.warp_runner.specs.Journal.{Deed, JournalFits, all_of}
+use Rattle.warp_runner.specs.Sweeps.{StopsInSweep, closes, gave}
 use Rattle.warp_core.specs.declared.served.Counts.{Counts}
 use Rattle.warp_core.specs.declared.served.Served.{Served}
 use Rattle.warp_core.specs.declared.served.ServeEnd.{ServeEnd}
@@ -84,6 +86,10 @@ module _ {A L : Type 0} (known : A → PassView L) where
   -- what all passes did on the stripes, together, by a weight of entries
   abbrev pub whole : (Entry → ℕ) → List A → ℕ
   whole f xs = weigh (λ x. own_weight f (known x).mgr) xs
+
+  -- how often the sweeps of all passes gave this opening, together
+  abbrev pub all_gave : Opening → List A → ℕ
+  all_gave o xs = weigh (λ x. weigh (gave o) (calls_of (known x).times)) xs
 
   -- the accepted registrations under its opening are as many as its waits and its end say
   abbrev pub IsCounted : List A → FinishedTold → Type 0
@@ -165,11 +171,18 @@ module _ {J P F C B G X : Type 0} {H : Ghosts F X} (told : B → BookTold) where
       → (whole pass_view (opens o) passes ≤ tally_weight pass_view (accepts o) passes)
       ⊎ SomeDid told limit passes kits (OpensUncounted o)
 
+  -- each opening that a sweep gave was closed as often as it was given, or a sweep stopped its dispatcher
+  abbrev pub SweptAreClosed : ℕ → List (ServePass J F X H) → List (Kit P F C B G) → Type 0
+  SweptAreClosed limit passes kits = (o : Opening)
+      → (all_gave pass_view o passes ≤ whole pass_view (closes o) passes)
+      ⊎ SomeDid told limit passes kits StopsInSweep
+
 module _ {P F C B G L I X : Type 0} {H : Ghosts F X} (told : B → BookTold) where
   -- what a server of this many links leaves behind adds up, and the ends that it tells have their causes
   pub record ServedAddsUp (limit : ℕ) (s : Served P F C B G L I X H) : Type 0 where
     pub runs : RunsAddUp pass_view limit s.passes.items (books_of told s.kits.items)
     pub causes : AllEndsRest pass_view s.passes.items (books_of told s.kits.items)
     pub opened : OpeningsAreCounted told limit s.passes.items s.kits.items
+    pub closed : SweptAreClosed told limit s.passes.items s.kits.items
     pub over : WhereOver s.end
         (λ counts. OverAddsUp pass_view limit counts s.passes.items (books_of told s.kits.items))

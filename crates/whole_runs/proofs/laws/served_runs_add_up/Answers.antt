@@ -3,6 +3,7 @@ use Rattle.warp_passes.specs.Passes.{pass_view}
 use Rattle.whole_runs.specs.Accounts.{books_of}
 use Rattle.whole_runs.proofs.EndsTold.{all_rest}
 use Rattle.whole_runs.proofs.Served.{all_lawful, explained_by, openings_counted, where_over}
+use Rattle.whole_runs.proofs.SweptClosed.{swept_closed}
 use Rattle.whole_runs.proofs.Totals.{all_over, all_runs}
 use Rattle.whole_runs.proofs.laws.served_runs_add_up.Goals as goal
 
@@ -23,6 +24,7 @@ returns g c =
           (λ x ys. c.level_passes_add_up.ensures pass_view x ys) lawful c.requires.level explained;
       causes = all_rest pass_view c.args.limit passes books explained;
       opened = λ o. openings_counted g.B.Book.told o c.args.limit passes kits c.requires.explained;
+      closed = λ o. swept_closed o g.B.Book.told c.args.limit passes kits c.requires.explained;
       over = where_over pass_view c.args.limit served.end passes _ books
           (λ counts. all_over pass_view c.args.limit counts passes books c.ranges.limit.fits ends once follow
           (λ x ys. c.level_passes_add_up.ensures pass_view x ys) lawful c.requires.level explained)

@@ -5,7 +5,7 @@ use Rattle.timeout_mgr.specs.Calls.{view_of as seen_of}
 use Rattle.warp_runner.specs.Acts.{told_of}
 use Rattle.warp_runner.proofs.Doing.{did_watch}
 use Rattle.warp_runner.proofs.Running.{sweep_fits, sweep_stops}
-use Rattle.warp_runner.proofs.SweptOnce.{swept_once}
+use Rattle.warp_runner.specs.SweepLaws.{swept_once}
 use Rattle.warp_runner.proofs.TimingOut.{sweeps_so}
 use Rattle.timeout_mgr.specs.declared.view.TimeCall.TheVariants.{Sweep}
 use Rattle.warp_runner.specs.Journal.{FitsUntil}

@@ -10,7 +10,7 @@ use Rattle.warp_jobs.specs.Tags.{tag_of}
 use Rattle.warp_runner.specs.Acts.{told_of}
 use Rattle.warp_runner.specs.Journal.{FitsUntil}
 use Rattle.warp_runner.specs.Runs.{named}
-use Rattle.warp_runner.proofs.NeverSweeps.{run_sweeps_none}
+use Rattle.warp_runner.specs.SweepLaws.{run_sweeps_none}
 use Rattle.warp_runner.proofs.Running.{run_fits}
 use Rattle.warp_runner.proofs.runner.ServerRunnerRunnerJob.run.Goals as goal
 
